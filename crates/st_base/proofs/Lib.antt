@@ -1,0 +1,4 @@
+pub mod KeyOrder
+pub mod KeyLaws
+pub mod Picking
+pub mod SlotBytes

@@ -1,0 +1,4 @@
+pub mod Reg
+pub mod EventKey
+pub mod Registers
+pub mod Slots
