@@ -2,3 +2,4 @@ pub mod Reg
 pub mod EventKey
 pub mod Registers
 pub mod Slots
+pub mod Outside

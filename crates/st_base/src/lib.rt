@@ -3,8 +3,10 @@
 #![tactic(auto)]
 
 pub mod key;
+pub mod limits;
 pub mod line;
 pub mod lists;
+pub mod outside;
 pub mod path;
 pub mod reg;
 pub mod registers;
