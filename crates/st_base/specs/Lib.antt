@@ -3,3 +3,4 @@ pub mod EventKey
 pub mod Registers
 pub mod Slots
 pub mod Outside
+pub mod OutsideMemory

@@ -1,10 +1,14 @@
 -- What the outside promises: files, sources and sinks that may fail, and whose failures are counted. The words to use:
--- HasRisen, IsReadAt, IsTaken, Appends.
-use Rattle.std.specs.Prelude.{◌≡◌, ◌⊎◌, ℕ, ◌+◌, ◌<◌, ◌≤◌, ◌^◌, List, [], ◌++◌, length, take, drop, Option, Some, IfSome, IsSomeAnd}
+-- HasRisen, next_count, IsReadAt, IsTaken, Appends.
+use Rattle.std.specs.Prelude.{◌≡◌, ◌⊎◌, ℕ, ◌+◌, ◌<◌, ◌≤◌, ◌^◌, ◌-◌, min, List, [], ◌++◌, length, take, drop, Option, Some, IfSome, IsSomeAnd}
 
 -- a count of faults has risen, or stands at its last value, where it can't rise any more
 abbrev pub HasRisen : ℕ → ℕ → Type 0
 HasRisen before after = (before < after) ⊎ (2 ^ 64 ≤ after + 1)
+
+-- a count that stands still at its last value
+abbrev pub next_count : ℕ → ℕ
+next_count count = min (count + 1) (2 ^ 64 - 1)
 
 -- n bytes of a file from a place on came to the front of a buffer; none only where the file ends at the place or before it
 pub record IsReadAt (file : List ℕ) (place n : ℕ) (old new : List ℕ) : Type 0 where

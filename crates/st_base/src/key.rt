@@ -2,7 +2,7 @@
 ghost use Rattle.std.specs.Prelude.{◌≡◌};
 ghost use Rattle.std.specs.Ordering.{nat_cmp};
 ghost use Rattle.std.specs.Cmp.Lexicographic.{slice_cmp};
-ghost use Rattle.st_base.specs.EventKey.{event_key};
+ghost use Rattle.st_base.specs.EventKey.{event_key, ChildComesAfter, ChildComesBefore};
 
 use crate::path::Path;
 use std::cmp::Ordering;
@@ -42,3 +42,15 @@ pub fn key_cmp(p: &Path, pj: u32, q: &Path, qj: u32) -> Ordering
         pj.cmp(&qj)
     }
 }
+
+/// What a thread does up to a fork, the fork itself included, is before all events of the child and its descendants.
+#[tactic(auto, using(crate::proofs::KeyLaws::key_laws))]
+pub fn child_comes_after()
+    ensures { ChildComesAfter }
+{}
+
+/// What a thread does after a fork comes after all events of the child and its descendants.
+#[tactic(auto, using(crate::proofs::KeyLaws::key_laws))]
+pub fn child_comes_before()
+    ensures { ChildComesBefore }
+{}

@@ -1,4 +1,5 @@
 //! Limits of a run.
+ghost use Rattle.std.specs.Prelude.{◌≡◌, ◌≤◌, ◌%◌, ◌^◌};
 
 /// A limit that a run met.
 #[derive(Clone, Copy, PartialEq, Eq, Debug)]
@@ -15,4 +16,37 @@ pub enum LimitKind {
     Input,
     /// As many turns as allowed were made.
     Turn,
+}
+
+/// The limits that a run is given. Its values are always within their ranges.
+#[derive(Clone, Copy)]
+pub struct Limits {
+    /// The bytes of each worker's stack: 1,024 to 1,048,576, a multiple of 16.
+    pub stack: u32,
+    /// How many threads and counters there may be in all: 16 to 65,536.
+    pub cells: u32,
+    /// How many steps each worker may begin: 1 to 2^40.
+    pub steps: u64,
+    ghost stack_least: { 1024 ≤ stack },
+    ghost stack_most: { stack ≤ 1048576 },
+    ghost stack_multiple: { stack % 16 ≡ 0 },
+    ghost cells_least: { 16 ≤ cells },
+    ghost cells_most: { cells ≤ 65536 },
+    ghost steps_least: { 1 ≤ steps },
+    ghost steps_most: { steps ≤ 2 ^ 40 },
+}
+
+impl Limits {
+    /// The limits of a run that names none: 1,048,576 bytes, 16,384 cells, 2^32 steps.
+    pub fn standard() -> Limits
+        ensures stack { result.stack ≡ 1048576 }
+        ensures cells { result.cells ≡ 16384 }
+        ensures steps { result.steps ≡ 2 ^ 32 }
+    {
+        Limits {
+            stack: 1_048_576,
+            cells: 16_384,
+            steps: 1 << 32,
+        }
+    }
 }
