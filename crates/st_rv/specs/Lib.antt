@@ -1,1 +1,4 @@
 pub mod Op
+pub mod Results
+pub mod Fields
+pub mod Rows

@@ -1,0 +1,5 @@
+pub mod Products
+pub mod Apart
+pub mod Masks
+pub mod Opcodes
+pub mod Table
