@@ -1,13 +1,6 @@
-// A library with one function.
+//! Faults of assembly text: the first thing in a text that a reader of it refuses.
 #![tactic(auto)]
 
-ghost use Rattle.std.specs.Prelude.{◌≡◌};
-ghost use Rattle.st_asm.specs.Echo.{echo_of};
+mod fault;
 
-// The `ensures` clause is the contract: what `echo` returns is `echo_of` of its argument, a definition
-// in `specs/Echo.antt`, which a caller's clause can cite too.
-pub fn echo(x: usize) -> usize
-    ensures { result ≡ echo_of x }
-{
-    x
-}
+pub use fault::{AsmFault, AsmKind};
