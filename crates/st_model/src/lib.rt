@@ -1,13 +1,9 @@
-// A library with one function.
+//! What a program means: the ordinary-call run, in which every fork runs at once as a call.
 #![tactic(auto)]
 
-ghost use Rattle.std.specs.Prelude.{◌≡◌};
-ghost use Rattle.st_model.specs.Echo.{echo_of};
-
-// The `ensures` clause is the contract: what `echo` returns is `echo_of` of its argument, a definition
-// in `specs/Echo.antt`, which a caller's clause can cite too.
-pub fn echo(x: usize) -> usize
-    ensures { result ≡ echo_of x }
-{
-    x
-}
+pub mod effect;
+pub mod laws;
+pub mod memory;
+pub mod ordinary;
+pub mod plain;
+pub mod program;

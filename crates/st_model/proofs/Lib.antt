@@ -1,0 +1,13 @@
+pub mod Loading
+pub mod Lookup
+pub mod Steps
+pub mod Ending
+pub mod Bounding
+pub mod Places
+pub mod Flowing
+pub mod EffectFlow
+pub mod SlotFlow
+pub mod CallFlow
+pub mod ItemFlow
+pub mod StartFlow
+pub mod RunFlow
