@@ -1,0 +1,5 @@
+use Rattle.st_laws.proofs.Quieting as quieting
+use Rattle.st_laws.proofs.quiet.quiet_gives_end.Goals as goal
+
+pub returns : goal.returns
+returns c = quieting.quiet_gives_end

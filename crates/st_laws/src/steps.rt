@@ -1,0 +1,33 @@
+//! Steps of threads: their order does not matter, so a quiet heap and its answer are one.
+
+ghost use Rattle.st_laws.specs.Steps.{Diamond, KeepsStep, LaterForks, OneHistory, OneQuiet, OneAnswer};
+
+/// Steps of two threads can be made in either order.
+pub fn diamond()
+    ensures { Diamond }
+{}
+
+/// A thread that has a step keeps it until it makes it.
+pub fn keeps_step()
+    ensures { KeepsStep }
+{}
+
+/// A thread that has made more steps has made no fewer forks.
+pub fn later_forks()
+    ensures { LaterForks }
+{}
+
+/// A thread's state is determined by how many steps it has made.
+pub fn one_history()
+    ensures { OneHistory }
+{}
+
+/// All quiet states that are reached from one start are the same.
+pub fn one_quiet()
+    ensures { OneQuiet }
+{}
+
+/// All quiet heaps that are reached from one start have one answer, and one list of counted bytes.
+pub fn one_answer()
+    ensures { OneAnswer }
+{}
