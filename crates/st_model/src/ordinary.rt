@@ -17,6 +17,8 @@ use st_base::thread::{Activation, ActivationKind, Held, TrapKind};
 use std::alloc::{AllocError, Global};
 
 #[cfg(test)]
+mod programs;
+#[cfg(test)]
 mod tests;
 
 /// How an ordinary-call run ends, with the bytes that were printed.

@@ -15,7 +15,7 @@ const JOIN: ItemKind = ItemKind::Entry { at: 0x70 };
 const PUTC: ItemKind = ItemKind::Entry { at: 0x90 };
 
 /// The run by `start` and `step`; `None` where something undefined is read, or after very many forks or counters.
-fn driven(
+pub fn driven(
     alloc: Global,
     program: &Program,
     rodata: &[u8],
