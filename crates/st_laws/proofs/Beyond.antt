@@ -20,7 +20,9 @@ use Rattle.st_model.specs.declared.ordinary.Tally.{Tally}
 use Rattle.st_model.specs.declared.ordinary.State.{State}
 use Rattle.st_model.specs.Effect.{File}
 use Rattle.st_model.specs.Heap.{Path, Heap, move, HStep, Run, IsNumbered, print}
-use Rattle.st_model.specs.Quiet.{bytes_of, is_before, counted_bytes}
+use Rattle.st_model.specs.declared.output.Printed.{Printed}
+use Rattle.st_model.specs.Quiet.{bytes_of, counts, counted_bytes}
+use Rattle.st_model.proofs.Counted.{all_count}
 use Rattle.st_laws.specs.Sequential.{thread_of, first_kept, Below, Stands, IsAmong, AreEarly, last_print}
 use Rattle.st_laws.specs.Agreement.{IsAfter}
 use Rattle.st_laws.proofs.HeapSteps.{thread_stays, decide}
@@ -150,7 +152,7 @@ stands_beyond s g numbered st q u here =
     ]
 
 -- ---- the bytes that count
-print_child : (p : Path) (b : Option ℕ) (n : ℕ) (out : List (ℕ × ℕ)) → p ≢ [] → print p b n out ≡ out
+print_child : (p : Path) (b : Option ℕ) (n : ℕ) (out : List Printed) → p ≢ [] → print p b n out ≡ out
 print_child [] b n out ne = absurd (ne refl)
 print_child (k ∷ p) b n out ne = refl
 
@@ -158,29 +160,31 @@ late : (o : Ordering) → o ≡ Greater → is_lt o ≡ false
 late o e = ap is_lt e
 
 -- a byte that the root prints after the event doesn't count
-filter_late : (event : List ℕ) (byte : Option ℕ) (n : ℕ) (out : List (ℕ × ℕ)) → slice_cmp nat_cmp event (2 * n ∷ []) ≡ Less → filter (is_before event) (print [] byte n out) ≡ filter (is_before event) out
-filter_late event None n out is = refl
-filter_late event (Some byte) n out is =
+filter_late : (k : ℕ) (e event : List ℕ) (byte : Option ℕ) (n : ℕ) (out : List Printed) → slice_cmp nat_cmp event (2 * n ∷ []) ≡ Less → filter (counts (k ∷ e) event) (print [] byte n out) ≡ filter (counts (k ∷ e) event) out
+filter_late k e event None n out is = refl
+filter_late k e event (Some byte) n out is =
+    let test = counts (k ∷ e) event in
+    let new : Printed = record { byte = byte; forks = n } in
     let greater : slice_cmp nat_cmp (2 * n ∷ []) event ≡ Greater = nat_list_cmp_total.antisymm (2 * n ∷ []) event ∙ ap ordering_reverse is in
-    let no : is_before event (byte, n) ≡ false = late _ greater in
-    filter-append (is_before event) out ((byte, n) ∷ [])
-    ∙ ap (λ b. filter (is_before event) out ++ cond b ((byte, n) ∷ []) []) no
-    ∙ append-nil (filter (is_before event) out)
+    let no : test new ≡ false = late _ greater in
+    filter-append test out (new ∷ [])
+    ∙ ap (λ b. filter test out ++ cond b (new ∷ []) []) no
+    ∙ append-nil (filter test out)
 
-abbrev Stays : Path → ℕ → List (ℕ × ℕ) → List (ℕ × ℕ) → Type 0
+abbrev Stays : Path → ℕ → List Printed → List Printed → Type 0
 Stays e f out out' = counted_bytes e (event_key e f) out' ≡ counted_bytes e (event_key e f) out
 
 counted_step : (program : Program) (source : Data) (g : Heap) (e : Path) (f : ℕ) (h : Heap) (p : Path) (h' : Heap) (t : Thread) → AllBeyond g e f h → h.thread e ≡ Some t → HasStopped t.standing → HStep program source h p h' → Stays e f h.out h'.out
 counted_step program source g [] f h p h' t all here stopped s =
     let ne : p ≢ [] = λ x. no_step program source h [] h' t here stopped (subst (λ y. HStep program source h y h') x s) in
-    subst (λ x. Stays [] f h.out x.out) s.next (ap bytes_of (print_child p s.change.printed s.thread.forks h.out ne))
+    subst (λ x. Stays [] f h.out x.out) s.next (ap (counted_bytes [] (event_key [] f)) (print_child p s.change.printed s.thread.forks h.out ne))
 counted_step program source g (k ∷ e) f h (j ∷ p) h' t all here stopped s = subst (λ x. Stays (k ∷ e) f h.out x.out) s.next refl
 counted_step program source g (k ∷ e) f h [] h' t all here stopped s =
     elim (all [] s.thread s.here) [
       | inl old ↦ absurd (no_step program source h [] h' s.thread s.here old.1 s)
       | inr x ↦ elim x [
         | inl same ↦ let y = same.0 in cc
-        | inr later ↦ subst (λ x. Stays (k ∷ e) f h.out x.out) s.next (ap bytes_of (filter_late (event_key (k ∷ e) f) s.change.printed s.thread.forks h.out later))
+        | inr later ↦ subst (λ x. Stays (k ∷ e) f h.out x.out) s.next (ap bytes_of (filter_late k e (event_key (k ∷ e) f) s.change.printed s.thread.forks h.out later))
       ]
     ]
 
@@ -196,15 +200,15 @@ counted_run program source g e f h (p ∷ ps) h' t numbered all here stopped run
     (more.0, more.1 ∙ counted_step program source g e f h p run.0 t all here stopped s)
 
 -- all bytes count that the ordinary run has printed by then
-early_all : (k : ℕ) (p : Path) (f : ℕ) (out : List (ℕ × ℕ)) → AreEarly k out → filter (is_before (event_key (k ∷ p) f)) out ≡ out
+early_all : (k : ℕ) (p : Path) (f : ℕ) (out : List Printed) → AreEarly k out → filter (counts (k ∷ p) (event_key (k ∷ p) f)) out ≡ out
 early_all k p f [] e = refl
 early_all k p f (b ∷ out) e =
-    let less : slice_cmp nat_cmp (2 * b.1 ∷ []) (event_key (k ∷ p) f) ≡ Less = then_less _ _ (cmp_less (2 * b.1) (2 * k + 1) (let x = e.0 in omega arith)) in
-    let yes : is_before (event_key (k ∷ p) f) b ≡ true = ap is_lt less in
-    let x : filter (is_before (event_key (k ∷ p) f)) (b ∷ out) ≡ b ∷ filter (is_before (event_key (k ∷ p) f)) out =
-    ap (λ y. cond y (b ∷ filter (is_before (event_key (k ∷ p) f)) out) (filter (is_before (event_key (k ∷ p) f)) out)) yes in
+    let test = counts (k ∷ p) (event_key (k ∷ p) f) in
+    let less : slice_cmp nat_cmp (2 * b.forks ∷ []) (event_key (k ∷ p) f) ≡ Less = then_less _ _ (cmp_less (2 * b.forks) (2 * k + 1) (let x = e.0 in omega arith)) in
+    let yes : test b ≡ true = ap is_lt less in
+    let x : filter test (b ∷ out) ≡ b ∷ filter test out = ap (λ y. cond y (b ∷ filter test out) (filter test out)) yes in
     x ∙ ap (λ y. b ∷ y) (early_all k p f out e.1)
 
-pub early_counts : (e : Path) (f : ℕ) (out : List (ℕ × ℕ)) → AreEarly (last_print e f) out → counted_bytes e (event_key e f) out ≡ bytes_of out
-early_counts [] f out early = refl
+pub early_counts : (e : Path) (f : ℕ) (out : List Printed) → AreEarly (last_print e f) out → counted_bytes e (event_key e f) out ≡ bytes_of out
+early_counts [] f out early = ap bytes_of (all_count (event_key [] f) out)
 early_counts (k ∷ p) f out early = ap bytes_of (early_all k p f out early)

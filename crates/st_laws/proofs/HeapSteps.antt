@@ -11,6 +11,7 @@ use Rattle.st_base.specs.declared.thread.Standing.{Standing}
 use Rattle.st_base.specs.declared.thread.Standing.TheVariants.{Ended}
 use Rattle.st_base.specs.declared.thread.Thread.{Thread}
 use Rattle.st_model.specs.declared.program.Program.{Program}
+use Rattle.st_model.specs.declared.output.Printed.{Printed}
 use Rattle.st_model.specs.Heap.{Path, Heap, Change, Move, Stays, Moves, Touch, Join, move, move_standing, Enabled, put, put_child, count_up, print, after, HStep, IsNumbered}
 use Rattle.st_model.specs.Ordinary.{counted}
 use Rattle.st_laws.specs.Steps.{Diamond}
@@ -83,7 +84,7 @@ count_more : (a : Option (Path × ℕ)) (f : Path → ℕ → ℕ) (q : Path) (k
 count_more None f q k least h = h
 count_more (Some a) f q k least h = bump_more _ least (f q k) h
 
-print_swap : (p q : Path) (a b : Option ℕ) (m n : ℕ) (out : List (ℕ × ℕ)) → p ≢ q → print p a m (print q b n out) ≡ print q b n (print p a m out)
+print_swap : (p q : Path) (a b : Option ℕ) (m n : ℕ) (out : List Printed) → p ≢ q → print p a m (print q b n out) ≡ print q b n (print p a m out)
 print_swap [] [] a b m n out ne = absurd (ne refl)
 print_swap [] (k ∷ q) None b m n out ne = refl
 print_swap [] (k ∷ q) (Some a) b m n out ne = refl

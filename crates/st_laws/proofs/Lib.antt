@@ -18,3 +18,4 @@ pub mod NamesHold
 pub mod HeapNames
 pub mod HeapFlow
 pub mod Finding
+pub mod Printing

@@ -1,6 +1,6 @@
 -- What a step makes of a heap's threads, bytes and counts, and of the values that the ordinary-call run records. each_after: what holds of the
 -- stepping thread, of its child and of each other thread holds of all threads after the step.
-use Rattle.std.proofs.Common.{◌≡◌, ◌≢◌, ℕ, zero, suc, ◌≤◌, ◌<◌, Bool, true, false, cond, ◌==◌, List, [], ◌∷◌, ◌++◌, Option, Some, None, refl, sym, ap, ◌∙◌, subst, arith, ◌⊎◌, inl, inr, map}
+use Rattle.std.proofs.Common.{◌≡◌, ◌≢◌, ℕ, zero, suc, ◌≤◌, ◌<◌, Bool, true, false, cond, ◌==◌, List, [], ◌∷◌, ◌++◌, Option, Some, None, refl, sym, ap, ◌∙◌, subst, arith, ◌⊎◌, inl, inr}
 use Rattle.std.specs.Prelude.{◌&&◌}
 use Rattle.std.specs.Str.{bytes_eq}
 use Rattle.std.proofs.lemmas.Slice.Eq.{bytes_eq-Decides}
@@ -8,8 +8,10 @@ use Rattle.std.proofs.lemmas.Bool.Decides.{nat_tests}
 use Rattle.st_base.specs.declared.thread.Thread.{Thread}
 use Rattle.st_model.specs.declared.ordinary.Tallied.{Tallied}
 use Rattle.st_model.specs.declared.ordinary.Rest.{Rest}
+use Rattle.st_model.specs.declared.output.Printed.{Printed}
 use Rattle.st_model.specs.Ordinary.{counted, is_counter, count_of, counted_up, value_of, is_root}
 use Rattle.st_model.specs.Heap.{Path, Heap, Change, after, put, put_child, print}
+use Rattle.st_model.specs.Quiet.{bytes_of}
 use Rattle.st_laws.specs.Sequential.{Placed, AreEarly, last_print}
 use Rattle.st_laws.proofs.HeapSteps.{put_same, put_other, decide, eq_same}
 use Rattle.std.proofs.lemmas.List.{map-append}
@@ -53,15 +55,15 @@ pub whole_after : (h : Heap) (p : Path) (t : Thread) (c : Change) (rest : Rest) 
 whole_after h p t c rest own child others = each_after (Placed rest) h p t c own child others
 
 -- ---- bytes
-pub print_none : (p : Path) (n : ℕ) (out : List (ℕ × ℕ)) → print p None n out ≡ out
+pub print_none : (p : Path) (n : ℕ) (out : List Printed) → print p None n out ≡ out
 print_none [] n out = refl
 print_none (k ∷ p) n out = refl
 
-pub early_more : (m n : ℕ) (out : List (ℕ × ℕ)) → m ≤ n → AreEarly m out → AreEarly n out
+pub early_more : (m n : ℕ) (out : List Printed) → m ≤ n → AreEarly m out → AreEarly n out
 early_more m n [] le e = tt
 early_more m n (b ∷ bs) le e = let x = e.0 in (omega arith, early_more m n bs le e.1)
 
-pub early_push : (n : ℕ) (out : List (ℕ × ℕ)) (byte : ℕ) → AreEarly n out → AreEarly n (out ++ (byte, n) ∷ [])
+pub early_push : (n : ℕ) (out : List Printed) (byte : ℕ) → AreEarly n out → AreEarly n (out ++ record { byte = byte; forks = n } ∷ [])
 early_push n [] byte e = (omega arith, tt)
 early_push n (b ∷ bs) byte e = (e.0, early_push n bs byte e.1)
 
@@ -176,10 +178,10 @@ pub root_is : (p : Path) → is_root p ≡ true → p ≡ []
 root_is [] e = refl
 root_is (k ∷ p) e = cc
 
-pub printed_early : (p : Path) (n byte : ℕ) (out : List (ℕ × ℕ)) → is_root p ≡ true → AreEarly (last_print p n) out → AreEarly (last_print p n) (print p (Some byte) n out)
+pub printed_early : (p : Path) (n byte : ℕ) (out : List Printed) → is_root p ≡ true → AreEarly (last_print p n) out → AreEarly (last_print p n) (print p (Some byte) n out)
 printed_early [] n byte out root e = early_push n out byte e
 printed_early (k ∷ p) n byte out root e = cc
 
-pub printed_list : (p : Path) (n byte : ℕ) (out : List (ℕ × ℕ)) → is_root p ≡ true → map (λ b. b.0) (print p (Some byte) n out) ≡ map (λ b. b.0) out ++ byte ∷ []
-printed_list [] n byte out root = map-append (λ b. b.0) out ((byte, n) ∷ [])
+pub printed_list : (p : Path) (n byte : ℕ) (out : List Printed) → is_root p ≡ true → bytes_of (print p (Some byte) n out) ≡ bytes_of out ++ byte ∷ []
+printed_list [] n byte out root = map-append (λ b. b.byte) out (record { byte = byte; forks = n } ∷ [])
 printed_list (k ∷ p) n byte out root = cc

@@ -26,6 +26,7 @@ use Rattle.st_base.specs.declared.thread.Activation.{Activation}
 use Rattle.st_model.specs.declared.ordinary.Tally.{Tally}
 use Rattle.st_model.specs.Effect.{File}
 use Rattle.std.specs.declared.cmp.Ordering.{Ordering}
+use Rattle.st_model.proofs.Counted.{all_count}
 use Rattle.st_laws.specs.QuietEnd.{IsEnd, QuietGivesEnd, QuietHasEnd, QuietIsOrdinary, QuietRanAll, UnfinishedIsAfter}
 use Rattle.st_laws.specs.Agreement.{IsWait}
 use Rattle.st_laws.specs.Sequential.{IsAmong, IsIn, Below, Stands, Steps, FirstStands}
@@ -165,7 +166,7 @@ finish program source s g H t (OutLimit out) numbered st forks stands wait to =
     let t' : Thread = record t { standing = Full } in
     let x = stopped_facts program source s g H t t' more.0 numbered st forks forks tt stands.2 more.1 in
     let y : Stopped H [] t' s.rest.out = subst (λ p. Stopped H p t' s.rest.out) stands.0 x in
-    let answer : IsAnswer program H OutLimit' s.rest.out = (t', (y.here, refl, y.least, y.bytes)) in
+    let answer : IsAnswer program H OutLimit' s.rest.out = (t', (y.here, refl, y.least, y.bytes ∙ ap bytes_of (all_count (key_of [] t') H.out))) in
     subst (IsAnswer program H OutLimit') (sym stands.1) answer
 
 -- ---- from runs by their number of steps

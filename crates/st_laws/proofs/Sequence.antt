@@ -1,6 +1,6 @@
 -- Each step of the ordinary-call run is a step of the heap-frame machine by its newest thread, and Stands holds again: sequential, and sequence for
 -- many steps. The step that ends the ordinary run is one too: ending. all_agree: a thread with as many steps of its own is as there.
-use Rattle.std.proofs.Common.{◌≡◌, ◌≢◌, ℕ, ◌+◌, ◌≤◌, Bool, true, false, cond, List, [], ◌∷◌, ◌++◌, ◌==◌, ◌<◌, map, length, Option, Some, None, refl, sym, ap, ◌∙◌, subst, arith, inl, inr, length-append}
+use Rattle.std.proofs.Common.{◌≡◌, ◌≢◌, ℕ, ◌+◌, ◌≤◌, Bool, true, false, cond, List, [], ◌∷◌, ◌++◌, ◌==◌, ◌<◌, length, Option, Some, None, refl, sym, ap, ◌∙◌, subst, arith, inl, inr, length-append}
 use Rattle.std.specs.Prelude.{nat_lt, ◌&&◌}
 use Rattle.std.proofs.lemmas.Bool.Decides.{nat_tests}
 use Rattle.st_model.specs.declared.ordinary.Tallied.{Tallied}
@@ -33,6 +33,7 @@ use Rattle.st_model.specs.declared.ordinary.Turn.TheVariants.{Undefined as Undef
 use Rattle.st_model.specs.Effect.{File, item_effect, IsFirst}
 use Rattle.st_model.specs.Ordinary.{step, step_at, item_at, apply, returned_to, ended_in, value_of, got, is_root, printed_when, joined_when, trapped, counted, count_of, counted_up}
 use Rattle.st_model.specs.Heap.{Path, Heap, Change, Move, own, Moves, Join, printed_move, move, move_at, effect_move, HasEnded, Enabled, after, HStep, IsNumbered, Run, put_child, with_frames, trapped_thread, count_up}
+use Rattle.st_model.specs.Quiet.{bytes_of}
 use Rattle.st_laws.specs.Sequential.{AreFrames, first_kept, root_bytes, thread_of, Suspended, Below, IsAmong, Placed, last_print, AreEarly, Facts, Stands, IsSequential, Steps, AllAgree}
 use Rattle.st_model.proofs.EffectFlow.{SameEntry}
 use Rattle.st_laws.proofs.Shapes.{HasShape, item_shape}
@@ -139,7 +140,7 @@ module _ (program : Program) (source : Data) (h : Heap) (line : Line) where
               ended = λ q v is. ended_stays h p t c q v b.numbered b.here refl (b.facts.ended q v is);
               whole = whole_after h p t c rest' (inr (inl refl)) tt (λ q u ne there. b.facts.whole q u there);
               counts = counted;
-              printed = ap (map (λ b. b.0)) same ∙ b.facts.printed;
+              printed = ap bytes_of same ∙ b.facts.printed;
               early = subst (AreEarly (last_print p rest.thread.forks)) (sym same) b.facts.early;
             };
       }
@@ -223,7 +224,7 @@ module _ (program : Program) (source : Data) (h : Heap) (line : Line) where
                   ];
               whole = whole_after h p t c next.rest (inl (v, refl, value_of_new rest.ended entry none)) tt placed;
               counts = b.facts.counts;
-              printed = ap (map (λ b. b.0)) same ∙ b.facts.printed;
+              printed = ap bytes_of same ∙ b.facts.printed;
               early =
                   subst (AreEarly (last_print parent.path parent.forks)) (sym same)
                   (early_more (last_print p rest.thread.forks) (last_print parent.path parent.forks) h.out
@@ -300,7 +301,7 @@ module _ (program : Program) (source : Data) (h : Heap) (line : Line) where
                 ended = λ q v is. ended_stays h p t c q v b.numbered b.here refl (b.facts.ended q v is);
                 whole = whole_after h p t c rest' (inr (inr (inl refl))) (inr (inl refl)) placed;
                 counts = b.facts.counts;
-                printed = ap (map (λ b. b.0)) bytes_same ∙ b.facts.printed;
+                printed = ap bytes_of bytes_same ∙ b.facts.printed;
                 early =
                     subst (AreEarly (last_print p' 0)) (sym bytes_same)
                     (early_more (last_print p k) (last_print p' 0) h.out (last_fork p k) b.facts.early);

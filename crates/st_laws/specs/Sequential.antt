@@ -1,6 +1,6 @@
 -- The ordinary-call run as a run of the heap-frame machine in which the newest thread steps. Stands says that a heap has just the threads,
 -- values, counts and bytes of a state of the ordinary run; Steps is a list of that run's steps, by the threads that are the newest at each.
-use Rattle.std.specs.Prelude.{ℕ, ◌≡◌, cond, List, [], ◌∷◌, ◌++◌, map, length, ◌⊎◌, ◌≤◌, Option, Some, None}
+use Rattle.std.specs.Prelude.{ℕ, ◌≡◌, cond, List, [], ◌∷◌, ◌++◌, length, ◌⊎◌, ◌≤◌, Option, Some, None}
 use Rattle.st_base.specs.declared.reg.Reg.{Reg}
 use Rattle.st_base.specs.declared.thread.Held.TheVariants.{Future}
 use Rattle.st_base.specs.declared.thread.Activation.{Activation}
@@ -9,6 +9,7 @@ use Rattle.st_base.specs.declared.thread.Standing.TheVariants.{Going, Ended}
 use Rattle.st_base.specs.declared.thread.Thread.{Thread}
 use Rattle.st_base.specs.Registers.{write_register}
 use Rattle.st_model.specs.declared.program.Program.{Program}
+use Rattle.st_model.specs.declared.output.Printed.{Printed}
 use Rattle.st_model.specs.declared.ordinary.Tally.{Tally}
 use Rattle.st_model.specs.declared.ordinary.Rest.{Rest}
 use Rattle.st_model.specs.declared.ordinary.State.{State}
@@ -16,6 +17,7 @@ use Rattle.st_model.specs.declared.ordinary.Turn.TheVariants.{Goes}
 use Rattle.st_model.specs.Effect.{File, IsFirst}
 use Rattle.st_model.specs.Ordinary.{step, start, is_root, value_of, count_of}
 use Rattle.st_model.specs.Heap.{Heap, Path, HStep, HasEnded, IsNumbered, Run, steps_of, first_heap}
+use Rattle.st_model.specs.Quiet.{bytes_of}
 use Rattle.st_model.specs.Memory.{Data}
 
 -- the activations of one thread: the oldest is its first, the others were called
@@ -81,16 +83,16 @@ last_print [] j = j
 last_print (k ∷ p) j = k
 
 -- each byte was printed after at most n forks of the root
-abbrev pub AreEarly : ℕ → List (ℕ × ℕ) → Type 0
+abbrev pub AreEarly : ℕ → List Printed → Type 0
 AreEarly n [] = Unit {0}
-AreEarly n (b ∷ bs) = (b.1 ≤ n) × AreEarly n bs
+AreEarly n (b ∷ bs) = (b.forks ≤ n) × AreEarly n bs
 
 -- the heap has just the threads, values, counts and bytes of the ordinary state
 pub record Facts (rest : Rest) (h : Heap) : Type 0 where
   pub ended : (p : Path) (v : ℕ) → value_of rest.ended p ≡ Some v → HasEnded h p v
   pub whole : (p : Path) (t : Thread) → h.thread p ≡ Some t → Placed rest p t
   pub counts : (p : Path) (n : ℕ) → count_of rest.counts p n ≡ h.count p n
-  pub printed : map (λ b. b.0) h.out ≡ rest.out
+  pub printed : bytes_of h.out ≡ rest.out
   pub early : AreEarly (last_print rest.thread.path rest.thread.forks) h.out
 
 -- the heap has the threads of the ordinary state

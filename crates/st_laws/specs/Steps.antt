@@ -1,9 +1,11 @@
 -- The order of the threads' steps does not matter: Diamond for two steps, OneHistory and OneQuiet for whole runs, KeepsStep for a step that is
 -- put off. So a quiet heap, its answer and its counted bytes are one, whatever run leads to it: OneQuiet and OneAnswer.
 use Rattle.st_base.specs.declared.thread.Thread.{Thread}
-use Rattle.st_model.specs.Heap.{Heap, Path, HStep, Run, IsNumbered, steps_of}
+use Rattle.st_model.specs.declared.ordinary.State.{State}
+use Rattle.st_model.specs.Ordinary.{start}
+use Rattle.st_model.specs.Heap.{Heap, Path, HStep, Run, IsNumbered, steps_of, first_heap}
 use Rattle.st_model.specs.Memory.{Data}
-use Rattle.st_model.specs.Quiet.{IsQuiet, QuietAnswer, IsAnswer}
+use Rattle.st_model.specs.Quiet.{IsQuiet, AreInOrder, QuietAnswer, IsAnswer}
 use Rattle.st_model.specs.declared.program.Program.{Program}
 use Rattle.std.specs.Prelude.{◌≤◌, ◌≡◌, ℕ, List, Some, ◌≢◌}
 
@@ -26,6 +28,10 @@ OneHistory =
 abbrev pub LaterForks : Type 0
 LaterForks =
     (program : Program) (source : Data) (h : Heap) (ps qs : List Path) (a b : Heap) (p : Path) (t u : Thread) → IsNumbered h → Run program source h ps a → Run program source h qs b → steps_of p ps ≤ steps_of p qs → a.thread p ≡ Some t → b.thread p ≡ Some u → t.forks ≤ u.forks
+
+-- in each heap that a run reaches from its start the root's bytes stand in the order of its forks; so those that count are the first ones
+abbrev pub BytesAreInOrder : Type 0
+BytesAreInOrder = (program : Program) (source : Data) (s : State) (ps : List Path) (h : Heap) → start program source ≡ Some s → Run program source (first_heap s) ps h → AreInOrder h.out
 
 -- a thread that has a step keeps it until it makes it
 abbrev pub KeepsStep : Type 0

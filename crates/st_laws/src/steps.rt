@@ -1,6 +1,6 @@
 //! Steps of threads: their order does not matter, so a quiet heap and its answer are one.
 
-ghost use Rattle.st_laws.specs.Steps.{Diamond, KeepsStep, LaterForks, OneHistory, OneQuiet, OneAnswer};
+ghost use Rattle.st_laws.specs.Steps.{BytesAreInOrder, Diamond, KeepsStep, LaterForks, OneHistory, OneQuiet, OneAnswer};
 
 /// Steps of two threads can be made in either order.
 pub fn diamond()
@@ -15,6 +15,11 @@ pub fn keeps_step()
 /// A thread that has made more steps has made no fewer forks.
 pub fn later_forks()
     ensures { LaterForks }
+{}
+
+/// In each reached heap the root's bytes stand in the order of its forks.
+pub fn bytes_are_in_order()
+    ensures { BytesAreInOrder }
 {}
 
 /// A thread's state is determined by how many steps it has made.

@@ -22,7 +22,7 @@ use Rattle.st_model.specs.declared.program.RuntimeCall.TheVariants.{Putc as Putc
 use Rattle.st_model.specs.declared.program.Program.{Program}
 use Rattle.st_model.specs.declared.program.ProgramFunction.{ProgramFunction}
 use Rattle.st_model.specs.Flow.{between, is_argument, gives, takes, IsNext, Leads, defined_after, reads, flow_of, argument_of}
-use Rattle.st_model.specs.Accepted.{Fits, HasFunction, IsPrologue, IsAccepted, IsAcceptedFunction}
+use Rattle.st_model.specs.Accepted.{Fits, HasFunction, IsPrologue, IsFormed, IsAcceptedFunction, IsAccepted}
 use Rattle.st_main.specs.declared.form_line.FixedLine.{FixedLine}
 use Rattle.st_main.specs.declared.form_line.FixedLine.TheVariants.{MakeFrame, SaveReturn, SaveBase, SetBase, LoadReturn, LoadBase, FreeFrame, Return, Putc}
 use Rattle.st_main.specs.declared.form_line.FormLine.{FormLine}
@@ -315,8 +315,8 @@ path_defined p none x xs (j ∷ back) at item place is t leads here r undefined 
     let next = function-next p x xs j at before is t leads.1.1 leads.1.2 in
     behind_defined p none x xs j back before item place is t leads.1.1 (sym (ap (slice_get (x ∷ xs)) next.0) ∙ here) r undefined
 
-function_of-accepted : (p : Program) (x : Item) (xs : List Item) → NoArguments p → IsPrologue x.kind → IsTail p xs false → IsAcceptedFunction p (function_of (x ∷ xs))
-function_of-accepted p x xs none is t = record {
+function_of-formed : (p : Program) (x : Item) (xs : List Item) → NoArguments p → IsPrologue x.kind → IsTail p xs false → IsFormed p (function_of (x ∷ xs))
+function_of-formed p x xs none is t = record {
   ints = omega arith;
   handles = omega arith;
   frame = record { multiple = refl; least = omega arith; most = omega arith; saved = omega arith; room = let none_saved : count_ones 0 ≤ 0 = ones_le_self 0 in omega (arith, none_saved) };
@@ -324,6 +324,11 @@ function_of-accepted p x xs none is t = record {
   once = λ i item here prologue. function-once p x xs i item t here prologue;
   fits = λ i item here. function-fits p x xs i item is t here;
   stays = λ i j item here n. let next = function-next p x xs i j item is t here n in let e = next.0 in (omega (arith, e), next.1);
+}
+
+function_of-accepted : (p : Program) (x : Item) (xs : List Item) → NoArguments p → IsPrologue x.kind → IsTail p xs false → IsAcceptedFunction p (function_of (x ∷ xs))
+function_of-accepted p x xs none is t = record {
+  formed = function_of-formed p x xs none is t;
   defined = λ u. path_defined p none x xs u.back u.at u.item u.place is t u.leads u.here u.reads u.undefined;
 }
 

@@ -17,7 +17,8 @@ use Rattle.st_model.specs.declared.effect.Effect.TheVariants.{Undefined as EUnde
 use Rattle.st_model.specs.Memory.{Data}
 use Rattle.st_model.specs.Effect.{File, item_effect}
 use Rattle.st_model.specs.Ordinary.{step, step_at, run, run_from, ordinary_run, after_turn, apply, item_at, start, returned_to, ended_in, got, printed_when, joined_when}
-use Rattle.st_model.specs.Bounded.{Bounds, BoundedEnd, limit_when, limit_at, drawn_by, bounded_after, bounded_turn, bounded, bounded_root, bounded_from, bounded_run, AgreesWith}
+use Rattle.st_model.specs.Draws.{drawn_by}
+use Rattle.st_model.specs.Bounded.{Bounds, BoundedEnd, limit_when, limit_at, bounded_after, bounded_turn, bounded, bounded_root, bounded_from, bounded_run, AgreesWith}
 use Rattle.st_model.specs.Laws.{BoundedAgrees}
 
 -- a turn that is over does not go on

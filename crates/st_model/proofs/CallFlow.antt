@@ -89,8 +89,8 @@ entered_flows known p f function d kept file kind here ok has args =
       slots = record {
         bytes_long = length-replicate function.frame_bytes None;
         handles_long = length-replicate function.slots None;
-        bytes = λ b low high is. absurd (entry_low function (32 + b) ok.ints ok.handles (omega arith) is);
-        handles = λ s lt is. absurd (entry_low function (32 + 8 * s) ok.ints ok.handles (omega arith) is);
+        bytes = λ b low high is. absurd (entry_low function (32 + b) ok.formed.ints ok.formed.handles (omega arith) is);
+        handles = λ s lt is. absurd (entry_low function (32 + 8 * s) ok.formed.ints ok.formed.handles (omega arith) is);
       };
     }
 

@@ -24,7 +24,7 @@ use Rattle.st_model.specs.declared.effect.Effect.TheVariants.{Goes}
 use Rattle.st_model.specs.Memory.{Data}
 use Rattle.st_model.specs.Effect.{File, is_frame, is_move, runtime_call, at_item, advanced, moved, name_moved, plain_as, left_by, item_effect}
 use Rattle.st_model.specs.Flow.{Defined, flow, flow_of, gives_as, reads_as, gives, takes, reads, IsNextOfPlain, IsNext, Leads, defined_after}
-use Rattle.st_model.specs.Accepted.{IsInt, IsHandle, PlainFitsAs, Fits, IsAcceptedFunction, IsAccepted}
+use Rattle.st_model.specs.Accepted.{IsInt, IsHandle, PlainFitsAs, Fits, IsFormed, IsAccepted}
 use Rattle.st_model.specs.Ordinary.{item_at}
 use Rattle.st_model.proofs.Places.{nothing, fork_handle}
 use Rattle.st_model.proofs.Flowing.{Known, IsName, IsNamed, IsNumber, HasFile, HasSlots, file_number, file_name}
@@ -95,9 +95,9 @@ module _ (known : Known) (p : Program) (function : ProgramFunction) (top : Activ
 -- ---- paths
 
 -- a path stays in the function
-path_within : (p : Program) (function : ProgramFunction) (back : List ℕ) (i : ℕ) → IsAcceptedFunction p function → Leads function back i → i < length function.items
-path_within p function [] i ok leads = subst (λ j. j < length function.items) (sym leads) (slice_get_within _ 0 _ ok.begins.1)
-path_within p function (j ∷ back) i ok leads = (ok.stays j i leads.1.0 leads.1.1 leads.1.2).1
+path_within : (p : Program) (function : ProgramFunction) (back : List ℕ) (i : ℕ) → IsFormed p function → Leads function back i → i < length function.items
+path_within p function [] i formed leads = subst (λ j. j < length function.items) (sym leads) (slice_get_within _ 0 _ formed.begins.1)
+path_within p function (j ∷ back) i formed leads = (formed.stays j i leads.1.0 leads.1.1 leads.1.2).1
 
 item_within : (items : List Item) (i : ℕ) → i < length items → (item : Item) × (slice_get items i ≡ Some item)
 item_within items i lt = elim (slice_get_cases items i).1 [ inl a ↦ (a.0, a.2) | inr b ↦ let past = b.0 in absurd (omega arith) ]
@@ -120,7 +120,7 @@ pub item_flows : (known : Known) (p : Program) (source : Data) (top : Activation
 item_flows known p source top file accepted a =
     let function = a.function in
     let ok = accepted.functions top.function function a.here in
-    let there = item_within function.items top.next (path_within p function a.back top.next ok a.leads) in
+    let there = item_within function.items top.next (path_within p function a.back top.next ok.formed a.leads) in
     let item = there.0 in
     let c : At known p function (reads p function.frame_bytes item.kind) (gives function.frame_bytes item.kind) (takes item.kind) (IsNext item.kind) top file (defined_after function a.back) =
     record {
@@ -135,5 +135,5 @@ item_flows known p source top file accepted a =
     } in (
       item,
       rw a.here there.1,
-      kind_flows known p function top file (defined_after function a.back) source item.kind c (ok.fits top.next item there.1),
+      kind_flows known p function top file (defined_after function a.back) source item.kind c (ok.formed.fits top.next item there.1),
     )

@@ -11,3 +11,4 @@ pub mod CallFlow
 pub mod ItemFlow
 pub mod StartFlow
 pub mod RunFlow
+pub mod Counted

@@ -90,7 +90,8 @@ abbrev pub IsPrologue : ItemKind → Type 0
 IsPrologue Prologue = Unit {0}
 IsPrologue _ = ⊥
 
-pub record IsAcceptedFunction (p : Program) (function : ProgramFunction) : Type 0 where
+-- the forms of a function: all that acceptance asks but the paths to undefined reads
+pub record IsFormed (p : Program) (function : ProgramFunction) : Type 0 where
   pub ints : function.ints ≤ 6
   pub handles : function.handles ≤ 2
   pub frame : HasFrame function
@@ -101,6 +102,9 @@ pub record IsAcceptedFunction (p : Program) (function : ProgramFunction) : Type 
   pub fits : (i : ℕ) (item : Item) → slice_get function.items i ≡ Some item → Fits p function item.kind
   -- no branch out of the function or to its prologue, and no way past its end
   pub stays : (i j : ℕ) (item : Item) → slice_get function.items i ≡ Some item → IsNext item.kind i j → (0 < j) × (j < length function.items)
+
+pub record IsAcceptedFunction (p : Program) (function : ProgramFunction) : Type 0 where
+  pub formed : IsFormed p function
   -- no path to a read of something undefined
   pub defined : UndefinedRead p function → ⊥
 

@@ -3,9 +3,7 @@ use Rattle.std.specs.Prelude.{◌≡◌, ◌≢◌, ℕ, zero, suc, ◌+◌, ◌
 use Rattle.st_base.specs.declared.thread.Activation.{Activation}
 use Rattle.st_model.specs.declared.program.Item.{Item}
 use Rattle.st_model.specs.declared.program.ItemKind.{ItemKind}
-use Rattle.st_model.specs.declared.program.ItemKind.TheVariants.{Prologue, Entry, Fork}
-use Rattle.st_model.specs.declared.program.RuntimeCall.{RuntimeCall}
-use Rattle.st_model.specs.declared.program.RuntimeCall.TheVariants.{Counter}
+use Rattle.st_model.specs.declared.program.ItemKind.TheVariants.{Prologue}
 use Rattle.st_model.specs.declared.program.Program.{Program}
 use Rattle.st_model.specs.declared.ordinary.OrdEnd.{OrdEnd}
 use Rattle.st_model.specs.declared.ordinary.OrdEnd.TheVariants.{Going}
@@ -13,7 +11,7 @@ use Rattle.st_model.specs.declared.ordinary.State.{State}
 use Rattle.st_model.specs.declared.ordinary.Turn.{Turn}
 use Rattle.st_model.specs.declared.ordinary.Turn.TheVariants.{Undefined, Goes, Over}
 use Rattle.st_model.specs.Memory.{Data}
-use Rattle.st_model.specs.Effect.{runtime_call}
+use Rattle.st_model.specs.Draws.{draws, drawn_by}
 use Rattle.st_model.specs.Ordinary.{item_at, step, start}
 
 -- the most items, cells and frame bytes
@@ -29,16 +27,6 @@ pub data BoundedEnd : Type 0 where
   past_steps : BoundedEnd
   past_cells : BoundedEnd
   past_stack : ℕ → BoundedEnd
-
-abbrev pub call_draws : Option RuntimeCall → ℕ
-call_draws (Some Counter) = 1
-call_draws _ = 0
-
--- the cells that an item draws
-abbrev pub draws : ItemKind → ℕ
-draws (Fork f handle) = 1
-draws (Entry at) = call_draws (runtime_call at)
-draws _ = 0
 
 -- the frame bytes of an activation that has done its prologue, which is its first item
 abbrev pub frame_held : ℕ → ℕ → ℕ
@@ -63,10 +51,6 @@ limit_when false false frame = None
 abbrev pub limit_at : ℕ → ℕ → State → Option Item → Option BoundedEnd
 limit_at stack cells s None = None
 limit_at stack cells s (Some item) = limit_when (nat_lt cells (draws item.kind)) (overflows stack item.kind s) (length s.top.bytes)
-
-abbrev pub drawn_by : Option Item → ℕ
-drawn_by None = 0
-drawn_by (Some item) = draws item.kind
 
 abbrev pub bounded_after : (State → Option BoundedEnd) → Turn → Option BoundedEnd
 bounded_after go Undefined = None

@@ -16,6 +16,7 @@ use Rattle.st_base.specs.declared.thread.Thread.{Thread}
 use Rattle.st_base.specs.Registers.{write_register}
 use Rattle.st_model.specs.declared.program.Item.{Item}
 use Rattle.st_model.specs.declared.program.Program.{Program}
+use Rattle.st_model.specs.declared.output.Printed.{Printed}
 use Rattle.st_model.specs.declared.ordinary.State.{State}
 use Rattle.st_model.specs.declared.effect.Effect.{Effect}
 use Rattle.st_model.specs.declared.effect.Effect.TheVariants.{Undefined, Goes, Calls, Returns, Ends, Traps, Prints, Forks, Touches, Counts, Adds, Joins}
@@ -31,7 +32,7 @@ Path = List ℕ
 pub record Heap : Type 0 where
   pub thread : Path → Option Thread
   pub count : Path → ℕ → ℕ
-  pub out : List (ℕ × ℕ)
+  pub out : List Printed
 
 -- what a step changes
 pub record Change : Type 0 where
@@ -142,8 +143,8 @@ count_up None f q k = f q k
 count_up (Some c) f q k = cond (bytes_eq q c.0 && (k == c.1)) (counted (f q k)) (f q k)
 
 -- only the root prints
-abbrev pub print : Path → Option ℕ → ℕ → List (ℕ × ℕ) → List (ℕ × ℕ)
-print [] (Some byte) forks out = out ++ (byte, forks) ∷ []
+abbrev pub print : Path → Option ℕ → ℕ → List Printed → List Printed
+print [] (Some byte) forks out = out ++ record { byte = byte; forks = forks } ∷ []
 print [] None forks out = out
 print (k ∷ p) b forks out = out
 

@@ -6,11 +6,9 @@ use Rattle.st_base.specs.declared.thread.Thread.{Thread}
 use Rattle.st_model.specs.declared.program.Program.{Program}
 use Rattle.st_model.specs.declared.program.Item.{Item}
 use Rattle.st_model.specs.declared.program.ItemKind.{ItemKind}
-use Rattle.st_model.specs.declared.program.ItemKind.TheVariants.{Prologue, Entry, Fork}
-use Rattle.st_model.specs.declared.program.RuntimeCall.{RuntimeCall}
-use Rattle.st_model.specs.declared.program.RuntimeCall.TheVariants.{Counter}
+use Rattle.st_model.specs.declared.program.ItemKind.TheVariants.{Prologue}
 use Rattle.st_model.specs.Memory.{Data}
-use Rattle.st_model.specs.Effect.{runtime_call}
+use Rattle.st_model.specs.Draws.{drawn_by}
 use Rattle.st_model.specs.Ordinary.{item_at}
 use Rattle.st_model.specs.Heap.{Path, Heap, HStep, Run}
 use Rattle.st_model.specs.Quiet.{IsGoing}
@@ -45,20 +43,6 @@ abbrev pub prologue_bytes : ItemKind → ℕ → ℕ
 prologue_bytes Prologue bytes = bytes
 prologue_bytes _ bytes = 0
 
-abbrev pub drawn_by : Option RuntimeCall → ℕ
-drawn_by None = 0
-drawn_by (Some Counter) = 1
-drawn_by (Some _) = 0
-
-abbrev pub draws : ItemKind → ℕ
-draws (Fork f handle) = 1
-draws (Entry at) = drawn_by (runtime_call at)
-draws _ = 0
-
-abbrev pub drawn_of : Option Item → ℕ
-drawn_of None = 0
-drawn_of (Some item) = draws item.kind
-
 abbrev pub frame_of : Activation → Option Item → ℕ
 frame_of top None = 0
 frame_of top (Some item) = prologue_bytes item.kind (length top.bytes)
@@ -73,7 +57,7 @@ frame_made program p t = frame_at program t.activations
 
 abbrev pub drawn_at : Program → List Activation → ℕ
 drawn_at program [] = 0
-drawn_at program (top ∷ older) = drawn_of (item_at program top)
+drawn_at program (top ∷ older) = drawn_by (item_at program top)
 
 -- the cells that a step draws: one at a fork and at st_counter
 abbrev pub cells_drawn : Program → Path → Thread → ℕ

@@ -1,6 +1,6 @@
 -- What a heap that is quiet answers. IsQuiet says that no thread has a step, IsAnswer what the answer is and which of the root's bytes
 -- count. The events of a heap are its trapped threads and a full root, each with its key; of several the one of the least key counts.
-use Rattle.std.specs.Prelude.{◌≡◌, ◌≢◌, ℕ, ◌*◌, Bool, List, [], ◌∷◌, map, Option, Some, None}
+use Rattle.std.specs.Prelude.{◌≡◌, ◌≢◌, ◌≤◌, ℕ, Bool, true, List, [], ◌∷◌, map, Option, Some, None}
 use Rattle.std.specs.List.{filter}
 use Rattle.std.specs.Ordering.{nat_cmp, is_lt}
 use Rattle.std.specs.declared.cmp.Ordering.TheVariants.{Greater}
@@ -14,6 +14,7 @@ use Rattle.st_base.specs.declared.thread.Thread.{Thread}
 use Rattle.st_base.specs.declared.thread.Activation.{Activation}
 use Rattle.st_model.specs.declared.program.Item.{Item}
 use Rattle.st_model.specs.declared.program.Program.{Program}
+use Rattle.st_model.specs.declared.output.Printed.{Printed}
 use Rattle.st_model.specs.Memory.{Data}
 use Rattle.st_model.specs.Ordinary.{item_at}
 use Rattle.st_model.specs.Heap.{Heap, Path, HStep}
@@ -55,17 +56,30 @@ pub data QuietAnswer : Type 0 where
   Deadlock : Line → Path → QuietAnswer
 
 -- the root's bytes
-abbrev pub bytes_of : List (ℕ × ℕ) → List ℕ
-bytes_of out = map (λ b. b.0) out
+abbrev pub bytes_of : List Printed → List ℕ
+bytes_of out = map (λ b. b.byte) out
 
 -- the byte was printed before the event
-abbrev pub is_before : List ℕ → ℕ × ℕ → Bool
-is_before event b = is_lt (slice_cmp nat_cmp (2 * b.1 ∷ []) event)
+abbrev pub is_before : List ℕ → Printed → Bool
+is_before event b = is_lt (slice_cmp nat_cmp (event_key [] b.forks) event)
+
+-- the byte counts where the thread p has the event: each byte where p is the root, else those printed before the event
+abbrev pub counts : Path → List ℕ → Printed → Bool
+counts [] event b = true
+counts (k ∷ p) event b = is_before event b
 
 -- the bytes that count where the thread p has the event
-abbrev pub counted_bytes : Path → List ℕ → List (ℕ × ℕ) → List ℕ
-counted_bytes [] event out = bytes_of out
-counted_bytes (k ∷ p) event out = bytes_of (filter (is_before event) out)
+abbrev pub counted_bytes : Path → List ℕ → List Printed → List ℕ
+counted_bytes p event out = bytes_of (filter (counts p event) out)
+
+-- the first byte was printed after at least so many forks of the root, and the forks do not fall from one byte to the next
+abbrev pub AreFrom : ℕ → List Printed → Type 0
+AreFrom forks [] = Unit {0}
+AreFrom forks (b ∷ out) = (forks ≤ b.forks) × AreFrom b.forks out
+
+-- the forks do not fall from one byte to the next
+abbrev pub AreInOrder : List Printed → Type 0
+AreInOrder out = AreFrom 0 out
 
 abbrev pub line_of : Option Item → Option Line
 line_of None = None

@@ -5,5 +5,8 @@ pub mod effect;
 pub mod laws;
 pub mod memory;
 pub mod ordinary;
+pub mod output;
 pub mod plain;
 pub mod program;
+#[cfg(test)]
+mod tests;
