@@ -255,7 +255,7 @@ fn epilogue(top: Activation, registers: Registers) -> Effect
 }
 
 /// The runtime call whose entry has this address.
-fn runtime_call(at: u32) -> Option<RuntimeCall>
+pub fn runtime_call(at: u32) -> Option<RuntimeCall>
     ensures { result ≡ runtime_call at }
 {
     match at {

@@ -90,14 +90,14 @@ fn is_handle(reg: Reg) -> bool
 }
 
 /// Whether an access with this base is one of the activation's slots.
-fn is_frame(reg: Reg) -> bool
+pub fn is_frame(reg: Reg) -> bool
     ensures { result ≡ is_frame reg }
 {
     matches!(reg, Reg::S0)
 }
 
 /// The place of a slot access, counted from the frame's low end.
-fn slot_place(frame_bytes: usize, offset: i64) -> u64
+pub fn slot_place(frame_bytes: usize, offset: i64) -> u64
     ensures { result ≡ slot_place frame_bytes offset }
 {
     (frame_bytes as u64).wrapping_add(word_of(offset))

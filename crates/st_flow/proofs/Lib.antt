@@ -1,0 +1,13 @@
+pub mod Bits
+pub mod Adding
+pub mod Spreading
+pub mod DepthFirst
+pub mod Searching
+pub mod Words
+pub mod TableRows
+pub mod Travelling
+pub mod Reading
+pub mod Hits
+pub mod Joining
+pub mod Answering
+pub mod TestFunctions
