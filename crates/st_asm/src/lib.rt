@@ -1,6 +1,27 @@
-//! Faults of assembly text: the first thing in a text that a reader of it refuses.
+//! Assembly text, whole: the unit that the texts of all files make, or their first fault.
+//!
+//! `read_unit` is the grammar of units (`specs/Assembly.antt`): labels over all files, the sections and functions of their
+//! lines, the faults E1 to E8 by line and least kind. A `Unit` keeps what every unit has (`specs/Unit.antt`).
 #![tactic(auto)]
 
-mod fault;
+mod assembly;
+mod copies;
+mod entries;
+mod error;
+mod labels;
+mod lines;
+mod places;
+mod reader;
+mod statements;
+#[cfg(test)]
+mod tests;
+mod unit;
+mod whole;
 
-pub use fault::{AsmFault, AsmKind};
+pub use copies::{copy_ins, copy_target};
+pub use entries::{ENTRIES, entry_at, is_entry, is_local};
+pub use error::AsmError;
+pub use reader::read_unit;
+pub use st_line::{AsmFault, AsmKind, SourceIns, Target, Token, tokens};
+pub use unit::{Function, SourceLine};
+pub use whole::Unit;

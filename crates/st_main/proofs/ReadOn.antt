@@ -1,5 +1,5 @@
 -- Reading a file piece by piece. reads-more: a read behind what was read; progress-start, progress-more: what holds from read to read;
--- progress-end, progress-long: what it gives at the end of the file, and where more is read than a text of the form has.
+-- progress-end, progress-long: what it gives at the end of the file, and where more is read than a text may have.
 use Rattle.std.proofs.Common.{◌≡◌, ℕ, ◌+◌, ◌<◌, ◌≤◌, Bool, false, List, [], ◌++◌, length, take, drop, Option, Some, None, refl, sym, ap, ◌∙◌, subst, arith, ◌⊎◌, inl, inr}
 use Rattle.std.specs.Prelude.{IfSome, IsSomeAnd}
 use Rattle.std.proofs.lemmas.List.{take_all, length-append, length-drop}
@@ -89,11 +89,11 @@ progress-end None name old new more m p r = record { file = new; is = tt; start 
 progress-end (Some files) name old new more m p r =
     end_at files name old new (files name) refl p (subst (λ b. IsSomeAnd (files name) (λ file. Extends file old new b)) m r)
 
-long_at : (files : List ℕ → Option (List ℕ)) (name text : List ℕ) (o : Option (List ℕ)) → files name ≡ o → 65536 < length text → ProgressAt o text → HasStart (Some files) name text
+long_at : (files : List ℕ → Option (List ℕ)) (name text : List ℕ) (o : Option (List ℕ)) → files name ≡ o → 1048576 < length text → ProgressAt o text → HasStart (Some files) name text
 long_at files name text o e long (inl none) = absurd (let zero' : length text ≡ 0 = ap length none in omega (arith, long, zero'))
 long_at files name text None e long (inr f) = absurd f
 long_at files name text (Some file) e long (inr f) = record { file = file; is = e; start = inr (f, long) }
 
-pub progress-long : (contents : Option (List ℕ → Option (List ℕ))) (name text : List ℕ) → 65536 < length text → Progress contents name text → HasStart contents name text
+pub progress-long : (contents : Option (List ℕ → Option (List ℕ))) (name text : List ℕ) → 1048576 < length text → Progress contents name text → HasStart contents name text
 progress-long None name text long p = record { file = text; is = tt; start = inl refl }
 progress-long (Some files) name text long p = long_at files name text (files name) refl long p

@@ -1,13 +1,16 @@
--- What the program answers: the job of its words, the texts that it tells, and the outcome of a run: how the program exits, what it prints
--- and what it tells. Read job_of, outcome_of and IsAnswer. `run` takes the ordinary-call run of the file's program, of at most 2^32 steps.
-use Rattle.std.specs.Prelude.{◌≡◌, ◌⊎◌, ℕ, ◌^◌, cond, ◌&&◌, not, List, [], ◌∷◌, ◌++◌, take, Option, Some, None, option_map, IfSome, codes, decimal}
-use Rattle.std.specs.Str.{bytes_eq}
+-- What the program answers: the run that its words ask for, and the outcome of a run: how the program exits, what it prints and what fault
+-- it tells. Read standard_run, outcome_of and IsAnswer. `run` takes the ordinary-call run of the file's program, of at most 2^32 steps.
+use Rattle.std.specs.Prelude.{◌≡◌, ◌⊎◌, ℕ, ◌^◌, List, [], ◌∷◌, ◌++◌, take, Option, Some, None, option_map, IfSome, IsNone, codes, Result, Ok, Err}
+use Rattle.st_base.specs.declared.line.Line.{Line}
 use Rattle.st_base.specs.declared.limits.LimitKind.TheVariants.{Step, Out}
-use Rattle.st_base.specs.declared.thread.TrapKind.{TrapKind}
-use Rattle.st_base.specs.declared.thread.TrapKind.TheVariants.{LoadRange, Misaligned, WrongHandle, PutInChild, Abort}
 use Rattle.st_base.specs.Outside.{HasRisen, Appends}
-use Rattle.st_asm.specs.declared.fault.AsmKind.TheVariants.{UnknownName}
-use Rattle.st_asm.specs.Fault.{kind_text}
+use Rattle.st_line.specs.declared.fault.AsmFault.{AsmFault}
+use Rattle.st_line.specs.declared.fault.AsmKind.TheVariants.{UnknownName}
+use Rattle.st_asm.specs.Assembly.{Parts, unit_of}
+use Rattle.st_print.specs.declared.fault.Fault.{Fault}
+use Rattle.st_print.specs.declared.fault.Fault.TheVariants as faults
+use Rattle.st_print.specs.Telling.{fault_text, NamesFiles}
+use Rattle.st_jobs.specs.Commands.{Asked, Setting, setting, job_of}
 use Rattle.st_model.specs.declared.ordinary.OrdEnd.{OrdEnd}
 use Rattle.st_model.specs.declared.ordinary.OrdEnd.TheVariants as ends
 use Rattle.st_model.specs.Memory.{data_of}
@@ -15,84 +18,77 @@ use Rattle.st_model.specs.Ordinary.{ordinary_run}
 use Rattle.st_main.specs.declared.exit.Exit.{Exit}
 use Rattle.st_main.specs.declared.exit.Exit.TheVariants.{Done, Usage, Refused, Trap, Limit, ReadFault, WriteFault, OutOfMemory, Waits}
 use Rattle.st_main.specs.declared.outcome.Outcome.{Outcome}
-use Rattle.st_main.specs.Pieces.{joined}
 use Rattle.st_main.specs.Form.{departing_line, program_of}
 
 -- ---- the words
 
--- the file of `run --workers 1 FILE`; no other words are a job
-abbrev pub job_of : List (List ℕ) → Option (List ℕ)
-job_of (command ∷ option ∷ value ∷ file ∷ []) =
-    cond (bytes_eq command (codes "run") && bytes_eq option (codes "--workers") && bytes_eq value (codes "1") && not (bytes_eq (take 1 file) (codes "-"))) (Some file) None
-job_of _ = None
+-- the limits of a run that names none
+abbrev pub standard_limits : List Setting
+standard_limits = setting (codes "stack") 1048576 ∷ setting (codes "cells") 16384 ∷ setting (codes "steps") (2 ^ 32) ∷ []
 
--- ---- what is told
+-- a run of one file, with one worker and the limits of a run that names none
+abbrev pub standard_run : List ℕ → Asked
+standard_run file = record {
+  command = codes "run";
+  settings = setting (codes "workers") 1 ∷ standard_limits;
+  schedule = [];
+  files = file ∷ [];
+}
 
-abbrev pub usage_text : List ℕ
-usage_text = codes "usage: st_main COMMAND [OPTIONS] FILE...\n"
+-- the words ask for the run of a file; other jobs aren't built yet
+abbrev pub AsksFor : List (List ℕ) → List ℕ → Type 0
+AsksFor words file = job_of words ≡ Some (standard_run file)
 
-abbrev pub read_fault_text : List ℕ → List ℕ
-read_fault_text file = joined (codes "read fault " ∷ file ∷ codes "\n" ∷ [])
+abbrev pub AsksForNone : List (List ℕ) → Type 0
+AsksForNone words = (file : List ℕ) → AsksFor words file → ⊥
 
-abbrev pub write_fault_text : List ℕ
-write_fault_text = codes "write fault\n"
+-- ---- the outcome of a run: how the program exits, what it prints and what fault it tells
 
-abbrev pub memory_text : List ℕ
-memory_text = codes "out of memory\n"
-
--- a text at a line of the file
-abbrev pub at_line : List ℕ → ℕ → List ℕ → List ℕ
-at_line file line text = file ++ codes ":" ++ decimal line ++ codes ": " ++ text ++ codes "\n"
-
-abbrev pub departs_text : List ℕ → ℕ → List ℕ
-departs_text file line = at_line file line (kind_text UnknownName)
-
-abbrev pub trap_name : TrapKind → List ℕ
-trap_name LoadRange = codes "LoadRange"
-trap_name Misaligned = codes "Misaligned"
-trap_name WrongHandle = codes "WrongHandle"
-trap_name PutInChild = codes "PutInChild"
-trap_name Abort = codes "Abort"
-
--- the numbers of a path, each behind a comma
-abbrev pub numbers_after : List ℕ → List ℕ
-numbers_after [] = []
-numbers_after (k ∷ path) = codes "," ++ decimal k ++ numbers_after path
-
-abbrev pub numbers_text : List ℕ → List ℕ
-numbers_text [] = []
-numbers_text (k ∷ path) = decimal k ++ numbers_after path
-
--- a path in brackets
-abbrev pub path_text : List ℕ → List ℕ
-path_text path = codes "[" ++ numbers_text path ++ codes "]"
-
-abbrev pub trap_text : TrapKind → List ℕ → List ℕ
-trap_text kind path = codes "trap " ++ trap_name kind ++ codes " in thread " ++ path_text path
-
-abbrev pub waits_text : List ℕ → List ℕ
-waits_text path = codes "waits in thread " ++ path_text path
-
--- ---- the outcome of a run: how the program exits, what it prints and what it tells
+-- a line of the one file
+abbrev pub in_file : Line → Line
+in_file line = record { file = 1; line = line.line }
 
 -- of an end of the ordinary-call run; a run that goes on has met the limit of steps
-abbrev pub outcome_of_end : List ℕ → OrdEnd → Outcome
-outcome_of_end file ends.Going = record { exit = Limit (Step 0); printed = []; told = codes "limit Step worker 0\n" }
-outcome_of_end file (ends.Done out) = record { exit = Done; printed = out; told = [] }
-outcome_of_end file (ends.Trap kind line path out) = record { exit = Trap; printed = out; told = at_line file line.line (trap_text kind path) }
-outcome_of_end file (ends.Waits line path out) = record { exit = Waits; printed = out; told = at_line file line.line (waits_text path) }
-outcome_of_end file (ends.OutLimit out) = record { exit = Limit Out; printed = out; told = codes "limit Out\n" }
+abbrev pub outcome_of_end : OrdEnd → Outcome
+outcome_of_end ends.Going = record { exit = Limit (Step 0); printed = []; fault = Some (faults.Limit (Step 0)) }
+outcome_of_end (ends.Done out) = record { exit = Done; printed = out; fault = None }
+outcome_of_end (ends.Trap kind line path out) = record { exit = Trap; printed = out; fault = Some (faults.Trap (in_file line) kind path) }
+outcome_of_end (ends.Waits line path out) = record { exit = Waits; printed = out; fault = Some (faults.Waits (in_file line) path) }
+outcome_of_end (ends.OutLimit out) = record { exit = Limit Out; printed = out; fault = Some (faults.Limit Out) }
 
-abbrev pub refusal : List ℕ → ℕ → Outcome
-refusal file line = record { exit = Refused; printed = []; told = departs_text file line }
+abbrev pub refusal : AsmFault → Outcome
+refusal fault = record { exit = Refused; printed = []; fault = Some (faults.Reading fault) }
 
-abbrev pub outcome_by : List ℕ → List ℕ → Option ℕ → Option Outcome
-outcome_by file text (Some line) = Some (refusal file line)
-outcome_by file text None = option_map (outcome_of_end file) (ordinary_run (program_of text) (data_of [] []) (2 ^ 32))
+-- the fault of a text that departs from the form at a line
+abbrev pub departure : ℕ → AsmFault
+departure line = record { line = record { file = 1; line = line }; kind = UnknownName }
 
--- of a file with this text: it is refused at the first line that departs from the form, or its program is run
-unfoldable pub outcome_of : List ℕ → List ℕ → Option Outcome
-outcome_of file text = outcome_by file text (departing_line text)
+-- of a text that reads: it is refused at the first line that departs from the form, or its program is run
+abbrev pub outcome_by_form : List ℕ → Option ℕ → Option Outcome
+outcome_by_form text (Some line) = Some (refusal (departure line))
+outcome_by_form text None = option_map outcome_of_end (ordinary_run (program_of text) (data_of [] []) (2 ^ 32))
+
+-- a text that doesn't read is refused at its first fault
+abbrev pub outcome_by_unit : List ℕ → Result Parts AsmFault → Option Outcome
+outcome_by_unit text (Err fault) = Some (refusal fault)
+outcome_by_unit text (Ok parts) = outcome_by_form text (departing_line text)
+
+-- of a file with this text
+unfoldable pub outcome_of : List ℕ → Option Outcome
+outcome_of text = outcome_by_unit text (unit_of (text ∷ []))
+
+-- what is told of a fault, if there is one, where the file has this name
+abbrev pub told_text : List ℕ → Option Fault → List ℕ
+told_text file None = []
+told_text file (Some fault) = fault_text (file ∷ []) fault
+
+-- there is one name
+abbrev pub HasOneName : List (List ℕ) → Type 0
+HasOneName names = (file : List ℕ) × (names ≡ file ∷ [])
+
+-- the fault of an outcome names no file but the one
+abbrev pub NamesItsFile : Outcome → Type 0
+NamesItsFile o = (file : List ℕ) → IfSome o.fault (NamesFiles (file ∷ []))
 
 -- ---- the answer
 
@@ -108,31 +104,35 @@ pub record Seen : Type 1 where
   pub WriteRose : Type 0
 
 -- the outcome comes about; or its bytes weren't all taken, since the sink failed, and a prefix of them is printed
-abbrev pub ComesAbout : Outcome → Seen → Exit → Type 0
-ComesAbout o seen exit =
-    ((exit ≡ o.exit) × seen.Printed o.printed × seen.Told o.told) ⊎ ((exit ≡ WriteFault) × seen.WriteRose × ((n : ℕ) × seen.Printed (take n o.printed)) × seen.Told write_fault_text)
+abbrev pub ComesAbout : List ℕ → Outcome → Seen → Exit → Type 0
+ComesAbout file o seen exit =
+    ((exit ≡ o.exit) × seen.Printed o.printed × seen.Told (told_text file o.fault)) ⊎ ((exit ≡ WriteFault) × seen.WriteRose × ((n : ℕ) × seen.Printed (take n o.printed)) × seen.Told (fault_text [] faults.Write))
 
 -- memory was wanting: nothing is printed
 abbrev pub RunsOut : Seen → Exit → Type 0
-RunsOut seen exit = (exit ≡ OutOfMemory) × seen.Printed [] × seen.Told memory_text
+RunsOut seen exit = (exit ≡ OutOfMemory) × seen.Printed [] × seen.Told (fault_text [] faults.OutOfMemory)
 
 -- the answer on a text
 abbrev pub AnswersText : List ℕ → List ℕ → Seen → Exit → Type 0
-AnswersText file text seen exit = RunsOut seen exit ⊎ ((o : Outcome) × (outcome_of file text ≡ Some o) × ComesAbout o seen exit)
+AnswersText file text seen exit = RunsOut seen exit ⊎ ((o : Outcome) × (outcome_of text ≡ Some o) × ComesAbout file o seen exit)
 
 -- the file could not be read, since its count of faults rose: nothing is printed
 abbrev pub FailsToRead : List ℕ → Seen → Exit → Type 0
-FailsToRead file seen exit = (exit ≡ ReadFault) × seen.ReadRose × seen.Printed [] × seen.Told (read_fault_text file)
+FailsToRead file seen exit = (exit ≡ ReadFault) × seen.ReadRose × seen.Printed [] × seen.Told (fault_text (file ∷ []) (faults.ReadFile 1))
 
 -- the answer on a file
 abbrev pub AnswersFile : Option (List ℕ → Option (List ℕ)) → List ℕ → Seen → Exit → Type 0
 AnswersFile contents file seen exit =
     RunsOut seen exit ⊎ (FailsToRead file seen exit ⊎ ((text : List ℕ) × IsFile contents file text × AnswersText file text seen exit))
 
--- the answer of the program: on words that are no job it is Usage, and nothing is printed
-abbrev pub IsAnswer : Option (List ℕ) → Option (List ℕ → Option (List ℕ)) → Seen → Exit → Type 0
-IsAnswer None contents seen exit = (exit ≡ Usage) × seen.Printed [] × seen.Told usage_text
-IsAnswer (Some file) contents seen exit = AnswersFile contents file seen exit
+-- the words ask for no job, or for one that isn't built: nothing is printed
+abbrev pub RefusesWords : Seen → Exit → Type 0
+RefusesWords seen exit = (exit ≡ Usage) × seen.Printed [] × seen.Told (fault_text [] faults.Usage)
+
+-- the answer of the program
+abbrev pub IsAnswer : List (List ℕ) → Option (List ℕ → Option (List ℕ)) → Seen → Exit → Type 0
+IsAnswer words contents seen exit =
+    RunsOut seen exit ⊎ ((AsksForNone words × RefusesWords seen exit) ⊎ ((file : List ℕ) × AsksFor words file × AnswersFile contents file seen exit))
 
 -- a sink has taken a text, or a prefix of it where its count of faults rose
 abbrev pub TookOrFailed : ℕ → ℕ → Option (List ℕ) → Option (List ℕ) → List ℕ → Type 0

@@ -23,9 +23,9 @@ pub record Extends (file old new : List ℕ) (more : Bool) : Type 0 where
 abbrev pub Reads : Option (List ℕ → Option (List ℕ)) → List ℕ → List ℕ → List ℕ → Bool → Type 0
 Reads contents name old new more = IfSome contents (λ files. IsSomeAnd (files name) (λ file. Extends file old new more))
 
--- all of a file, or a front of it that is longer than a text of the form may be
+-- all of a file, or a front of it that is longer than a text may be
 abbrev pub IsStart : List ℕ → List ℕ → Type 0
-IsStart file text = (text ≡ file) ⊎ (IsFront file text × (65536 < length text))
+IsStart file text = (text ≡ file) ⊎ (IsFront file text × (1048576 < length text))
 
 -- the text is the start of a file, which is the file of the name where the files tell what they hold
 pub record HasStart (contents : Option (List ℕ → Option (List ℕ))) (name text : List ℕ) : Type 0 where

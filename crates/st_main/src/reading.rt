@@ -1,11 +1,11 @@
 //! Reading a whole file.
-ghost use Rattle.std.specs.Prelude.{◌≡◌, ◌≤◌, ◌<◌, ◌+◌, ℕ, List, length, take, IfOk, IfErr, IfSome, IsSomeAnd, Option, true, ◌^◌};
+ghost use Rattle.std.specs.Prelude.{◌≡◌, ◌≤◌, ◌<◌, ◌+◌, ℕ, List, length, take, IfOk, IfErr, IfSome, IsSomeAnd, Option, true, ◌^◌, ◌∷◌, [], map, string_bytes};
 ghost use Rattle.st_base.specs.Outside.{HasRisen};
 ghost use Rattle.st_main.specs.declared.reading.ReadError.{ReadError};
 ghost use Rattle.st_main.specs.Reading.{FaultRose, Reads, HasStart};
 
 use st_base::outside::{Failed, Files};
-use std::alloc::{AllocError, Global};
+use std::alloc::{AllocError, AllocFailed, Global};
 
 /// Why a file wasn't read.
 #[derive(Clone, Copy, Debug)]
@@ -25,6 +25,17 @@ impl From<AllocError> for ReadError {
     }
 }
 
+impl<T: Drop> From<AllocFailed<T>> for ReadError {
+    ghost use Rattle.std.specs.Prelude.{◌≡◌};
+    ghost use Rattle.st_main.specs.declared.reading.ReadError.TheVariants.{OutOfMemory};
+
+    ghost from_gives = { λ _ e. e ≡ OutOfMemory };
+
+    fn from(_: AllocFailed<T>) -> Self {
+        ReadError::OutOfMemory
+    }
+}
+
 impl From<Failed> for ReadError {
     ghost use Rattle.std.specs.Prelude.{◌≡◌};
     ghost use Rattle.st_main.specs.declared.reading.ReadError.TheVariants.{Fault};
@@ -36,11 +47,30 @@ impl From<Failed> for ReadError {
     }
 }
 
-/// The most bytes of a text of the form.
-const TEXT_LIMIT: usize = 65_536;
+/// The most bytes of a text: 1,048,576.
+const TEXT_LIMIT: usize = 1_048_576;
 
-/// Reads a file from its front until its end, or until more than 65,536 bytes are read.
-pub fn read_text<F: Files>(alloc: Global, files: &mut F, name: &str) -> Result<Vec<u8>, ReadError>
+/// Reads the one file of these names into a list of texts.
+pub fn read_texts<F: Files>(
+    alloc: Global,
+    files: &mut F,
+    names: &[String],
+) -> Result<Vec<Vec<u8>>, ReadError>
+    requires { length names.now ≡ 1 }
+    ensures contents { F.contents files.new ≡ F.contents files.old }
+    ensures faults { F.faults files.old ≤ F.faults files.new }
+    ensures fault { IfErr result (FaultRose (F.faults files.old) (F.faults files.new)) }
+    ensures one { IfOk result (λ texts. length texts.items ≡ 1) }
+    ensures text { IfOk result (λ texts. (file : List ℕ) → map (λ n. string_bytes n) names.now ≡ file ∷ [] → (text : List ℕ) × (map (λ t. t.items) texts.items ≡ text ∷ []) × HasStart (F.contents files.old) file text) }
+{
+    let text = read_text(alloc, files, names[0].as_str())?;
+    let mut texts = Vec::new(alloc);
+    texts.push(text)?;
+    Ok(texts)
+}
+
+/// Reads a file from its front until its end, or until more than 1,048,576 bytes are read.
+fn read_text<F: Files>(alloc: Global, files: &mut F, name: &str) -> Result<Vec<u8>, ReadError>
     ensures contents { F.contents files.new ≡ F.contents files.old }
     ensures faults { F.faults files.old ≤ F.faults files.new }
     ensures fault { IfErr result (FaultRose (F.faults files.old) (F.faults files.new)) }

@@ -1,39 +1,45 @@
 //! What the program tells on its second output, and what it makes of an outcome.
-ghost use Rattle.std.specs.Prelude.{◌≡◌, ◌≤◌, ℕ, [], List, map, take};
+ghost use Rattle.std.specs.Prelude.{◌≡◌, ◌≤◌, ℕ, [], ◌∷◌, List, map, take, length, Option, IfSome, string_bytes};
 ghost use Rattle.st_base.specs.Outside.{HasRisen, Appends};
-ghost use Rattle.st_main.specs.Pieces.{joined};
-ghost use Rattle.st_main.specs.Answer.{TookOrFailed, ComesAbout, RunsOut, seen_of};
+ghost use Rattle.st_print.specs.Telling.{fault_text, NamesFiles};
+ghost use Rattle.st_main.specs.Answer.{TookOrFailed, ComesAbout, HasOneName, NamesItsFile, RunsOut, seen_of, told_text};
 
 use crate::exit::Exit;
 use crate::outcome::Outcome;
-use crate::output::{put_all, put_pieces};
 use st_base::outside::Sink;
+use st_print::{Fault, put_all, write_fault};
 
-/// Tells a text that is in pieces; a sink that fails takes a prefix.
-pub fn tell<K: Sink>(err: &mut K, pieces: &[&[u8]])
-    ensures { TookOrFailed (K.faults err.old) (K.faults err.new) (K.taken err.old) (K.taken err.new) (joined (map (λ p. p.now) pieces.now)) }
+/// Tells a fault; a sink that fails takes a prefix of its text.
+pub fn tell<K: Sink>(err: &mut K, names: &[String], fault: &Fault)
+    requires { NamesFiles (map (λ n. string_bytes n) names.now) fault.now }
+    ensures { TookOrFailed (K.faults err.old) (K.faults err.new) (K.taken err.old) (K.taken err.new) (fault_text (map (λ n. string_bytes n) names.now) fault.now) }
 {
-    let _ = put_pieces(err, pieces);
+    let _ = write_fault(fault, names, err);
 }
 
-/// Tells a text; a sink that fails takes a prefix.
-fn tell_text<K: Sink>(err: &mut K, text: &[u8])
-    ensures { TookOrFailed (K.faults err.old) (K.faults err.new) (K.taken err.old) (K.taken err.new) text.now }
+/// Tells a fault, if there is one.
+fn tell_any<K: Sink>(err: &mut K, names: &[String], fault: &Option<Fault>)
+    requires { IfSome fault.now (NamesFiles (map (λ n. string_bytes n) names.now)) }
+    ensures { (file : List ℕ) → map (λ n. string_bytes n) names.now ≡ file ∷ [] → TookOrFailed (K.faults err.old) (K.faults err.new) (K.taken err.old) (K.taken err.new) (told_text file fault.now) }
 {
-    let _ = put_all(err, text);
+    if let Some(fault) = fault {
+        tell(err, names, fault);
+    }
 }
 
-/// Prints the bytes of an outcome and tells its text, or tells that the bytes weren't all taken.
-pub fn finish<K: Sink>(out: &mut K, err: &mut K, outcome: Outcome) -> Exit
-    ensures { (before after : ℕ) → ComesAbout outcome (seen_of before after (K.faults out.old) (K.faults out.new) (K.taken out.old) (K.taken out.new) (K.faults err.old) (K.faults err.new) (K.taken err.old) (K.taken err.new)) result }
+/// Prints the bytes of an outcome and tells its fault, or tells that the bytes weren't all taken.
+pub fn finish<K: Sink>(out: &mut K, err: &mut K, names: &[String], outcome: Outcome) -> Exit
+    requires name { HasOneName (map (λ n. string_bytes n) names.now) }
+    requires names { NamesItsFile outcome }
+    ensures { (file : List ℕ) → map (λ n. string_bytes n) names.now ≡ file ∷ [] → (before after : ℕ) → ComesAbout file outcome (seen_of before after (K.faults out.old) (K.faults out.new) (K.taken out.old) (K.taken out.new) (K.faults err.old) (K.faults err.new) (K.taken err.old) (K.taken err.new)) result }
 {
     match put_all(out, outcome.printed.as_slice()) {
         Ok(()) => {
-            tell_text(err, outcome.told.as_slice());
+            tell_any(err, names, &outcome.fault);
             outcome.exit
         }
         Err(_) => {
-            tell_text(err, b"write fault\n");
+            tell(err, &[], &Fault::Write);
             Exit::WriteFault
         }
     }
@@ -43,6 +49,6 @@ pub fn finish<K: Sink>(out: &mut K, err: &mut K, outcome: Outcome) -> Exit
 pub fn run_out<K: Sink>(out: &mut K, err: &mut K) -> Exit
     ensures { (before after : ℕ) → RunsOut (seen_of before after (K.faults out.old) (K.faults out.new) (K.taken out.old) (K.taken out.new) (K.faults err.old) (K.faults err.new) (K.taken err.old) (K.taken err.new)) result }
 {
-    tell_text(err, b"out of memory\n");
+    tell(err, &[], &Fault::OutOfMemory);
     Exit::OutOfMemory
 }

@@ -75,14 +75,25 @@ fn comes_to<R: Threads + Wait + Sync>(
     Ok(exit == want.0 && out.taken() == want.1 && err.taken() == want.2)
 }
 
-/// Whether a text is refused at this line.
+/// Whether a text is refused at this line, since it departs from the form.
 fn departs<R: Threads + Wait + Sync>(
     rt: &R,
     alloc: Global,
     text: &[u8],
     line: u32,
 ) -> Result<bool, AllocError> {
-    let told = format!(in alloc; "t.s:{line}: E3 UnknownName\n")?;
+    is_refused(rt, alloc, text, line, "E3 UnknownName")
+}
+
+/// Whether a text is refused at this line with this kind of fault.
+fn is_refused<R: Threads + Wait + Sync>(
+    rt: &R,
+    alloc: Global,
+    text: &[u8],
+    line: u32,
+    kind: &str,
+) -> Result<bool, AllocError> {
+    let told = format!(in alloc; "t.s:{line}: {kind}\n")?;
     comes_to(
         rt,
         alloc,
@@ -141,33 +152,75 @@ fn refuses_a_byte_without_a_value(rt: HostRuntime) -> Result<(), Fail> {
     Ok(())
 }
 
+/// What these words come to, where `t.s` is empty.
+fn words_come_to<R: Threads + Wait + Sync>(
+    rt: &R,
+    alloc: Global,
+    list: &[&str],
+    want: (Exit, &[u8]),
+) -> Result<bool, AllocError> {
+    let words = words(alloc, list)?;
+    let mut files = MemFiles::open(one_file(alloc, b"")?, Vec::new(alloc));
+    let mut input = MemSource::open(Vec::new(alloc), Vec::new(alloc));
+    let mut out = MemSink::open(alloc, 100, Vec::new(alloc))?;
+    let mut err = MemSink::open(alloc, 100, Vec::new(alloc))?;
+    let exit = st_main(
+        rt, alloc, &words, &mut files, &mut input, &mut out, &mut err, &NoGate,
+    );
+    Ok(exit == want.0 && out.taken() == b"".as_slice() && err.taken() == want.1)
+}
+
 #[test]
 fn takes_no_other_words(rt: HostRuntime) -> Result<(), Fail> {
     let alloc = rt.alloc();
-    let lists: [&[&str]; 8] = [
+    let lists: [&[&str]; 16] = [
         &[],
         &["run"],
-        &["run", "t.s"],
+        &["run", "--workers", "17", "t.s"],
+        &["run", "--workers", "0", "t.s"],
+        &["run", "--workers", "1", "--workers", "1", "t.s"],
+        &["sim", "--workers", "2", "--schedule", "02", "t.s"],
+        &["run", "--", "t.s"],
+        &["run", "-t.s"],
+        &["run", "--help"],
+        // these are not built yet
         &["run", "--workers", "2", "t.s"],
-        &["run", "--workers=1", "t.s"],
-        &["run", "--workers", "1", "-t.s"],
-        &["run", "--workers", "1", "t.s", "t.s"],
-        &["plain", "--workers", "1", "t.s"],
+        &["run", "--cells", "20", "t.s"],
+        &["run", "t.s", "t.s"],
+        &["plain", "t.s"],
+        &["check", "t.s"],
+        &["post", "t.s"],
+        &["gen", "--number", "7"],
     ];
     for list in lists {
-        let words = words(alloc, list)?;
-        let mut files = MemFiles::open(one_file(alloc, b"")?, Vec::new(alloc));
-        let mut input = MemSource::open(Vec::new(alloc), Vec::new(alloc));
-        let mut out = MemSink::open(alloc, 100, Vec::new(alloc))?;
-        let mut err = MemSink::open(alloc, 100, Vec::new(alloc))?;
-        let exit = st_main(
-            &rt, alloc, &words, &mut files, &mut input, &mut out, &mut err, &NoGate,
+        assert!(rt;
+            words_come_to(
+                &rt,
+                alloc,
+                list,
+                (Exit::Usage, b"usage: st_main COMMAND [OPTIONS] FILE...\n")
+            )?,
+            "{list:?}"
         );
-        assert_eq!(rt; exit, Exit::Usage);
-        assert!(rt; out.taken() == b"".as_slice());
-        assert!(rt; err.taken() == b"usage: st_main COMMAND [OPTIONS] FILE...\n".as_slice());
     }
     assert_eq!(rt; Exit::Usage.status(), 1);
+    let lists: [&[&str]; 4] = [
+        &["run", "t.s"],
+        &["run", "--workers=1", "t.s"],
+        &["run", "t.s", "--workers", "01"],
+        &["run", "--cells", "16384", "t.s"],
+    ];
+    for list in lists {
+        assert!(rt;
+            words_come_to(
+                &rt,
+                alloc,
+                list,
+                (Exit::Refused, b"t.s:1: E3 UnknownName\n")
+            )?,
+            "{list:?}"
+        );
+    }
     Ok(())
 }
 
@@ -245,38 +298,43 @@ fn exits_the_same_where_telling_fails(rt: HostRuntime) -> Result<(), Fail> {
 #[test]
 fn refuses_hostile_lines(rt: HostRuntime) -> Result<(), Fail> {
     let alloc = rt.alloc();
-    let cases: [(&str, &str, u32); 26] = [
-        ("    li a0,2048\n", "", 6),
-        ("    li a0,-2049\n", "", 6),
-        ("    li a0,+1\n", "", 6),
-        ("    li a0,007\n", "", 6),
-        ("    li a0,-0\n", "", 6),
-        ("    li a0,\n", "", 6),
-        ("    li a0,99999\n", "", 6),
-        ("    li a0, 1\n", "", 6),
-        ("\tli a0,1\n", "", 6),
-        ("    li a0,1\r\n", "", 6),
-        ("    li a1,1\n", "", 6),
-        ("    addi a0,a0,1\n", "", 6),
-        ("", "", 6),
-        ("    li a0,1\n    call st_putc\n    addi a0,a0,1\n", "", 8),
-        ("    li a0,1\n    call st_touch\n", "", 7),
-        ("    call main\n", "", 6),
-        ("    call g\n", "", 6),
-        ("    call 9\n", "", 6),
-        ("    li a0,1\n", "main:\n", 11),
-        ("    li a0,1\n", "st_end:\n", 11),
-        ("    li a0,1\n", "f-g:\n", 11),
-        ("    li a0,1\n", "    ret\n", 11),
-        ("    li a0,1\n", "\n", 11),
-        ("    li a0,1\n", "f:\n", 12),
-        ("    li a0,1\n", "f: \n", 11),
-        ("    li a0,1\n    li a0,1", "", 7),
+    let cases: [(&str, &str, u32, &str); 26] = [
+        ("    li a0,2048\n", "", 6, "E3 UnknownName"),
+        ("    li a0,-2049\n", "", 6, "E3 UnknownName"),
+        ("    li a0,+1\n", "", 6, "E4 BadOperand"),
+        ("    li a0,007\n", "", 6, "E3 UnknownName"),
+        ("    li a0,-0\n", "", 6, "E3 UnknownName"),
+        ("    li a0,\n", "", 6, "E4 BadOperand"),
+        ("    li a0,99999\n", "", 6, "E3 UnknownName"),
+        ("    li a0, 1\n", "", 6, "E3 UnknownName"),
+        ("\tli a0,1\n", "", 6, "E3 UnknownName"),
+        ("    li a0,1\r\n", "", 6, "E3 UnknownName"),
+        ("    li a1,1\n", "", 6, "E3 UnknownName"),
+        ("    addi a0,a0,1\n", "", 6, "E3 UnknownName"),
+        ("", "", 6, "E3 UnknownName"),
+        (
+            "    li a0,1\n    call st_putc\n    addi a0,a0,1\n",
+            "",
+            8,
+            "E3 UnknownName",
+        ),
+        ("    li a0,1\n    call st_touch\n", "", 7, "E3 UnknownName"),
+        ("    call main\n", "", 6, "E3 UnknownName"),
+        ("    call g\n", "", 6, "E7 NoLabel"),
+        ("    call 9\n", "", 6, "E4 BadOperand"),
+        ("    li a0,1\n", "main:\n", 11, "E6 DoubleLabel"),
+        ("    li a0,1\n", "st_end:\n", 11, "E6 DoubleLabel"),
+        ("    li a0,1\n", "f-g:\n", 11, "E2 BadLine"),
+        ("    li a0,1\n", "    ret\n", 11, "E3 UnknownName"),
+        ("    li a0,1\n", "\n", 11, "E3 UnknownName"),
+        ("    li a0,1\n", "f:\n", 12, "E3 UnknownName"),
+        ("    li a0,1\n", "f: \n", 11, "E3 UnknownName"),
+        ("    li a0,1\n    li a0,1", "", 7, "E4 BadOperand"),
     ];
-    for (body, more, line) in cases {
+    for (body, more, line, kind) in cases {
         let text = program(alloc, body, more)?;
         assert!(rt;
-            departs(&rt, rt.alloc(), text.as_bytes(), line)?,
+            is_refused(&rt, rt.alloc(), text.as_bytes(), line, kind)?,
             "{body:?} {more:?}"
         );
     }
@@ -288,7 +346,19 @@ fn refuses_hostile_texts(rt: HostRuntime) -> Result<(), Fail> {
     let alloc = rt.alloc();
     assert!(rt; departs(&rt, rt.alloc(), b"", 1)?);
     assert!(rt; departs(&rt, rt.alloc(), b"main:", 1)?);
-    assert!(rt; departs(&rt, rt.alloc(), b"main:\n\x80", 2)?);
+    assert!(rt; is_refused(&rt, rt.alloc(), b"main:\n\x80", 2, "E1 NotAscii")?);
+    assert!(rt;
+        is_refused(
+            &rt,
+            rt.alloc(),
+            b"main:\n    addi a0,a0,2048",
+            2,
+            "E5 ImmRange"
+        )?
+    );
+    let lines = vec![in alloc; b'\n'; 1_048_577]?;
+    assert!(rt; departs(&rt, rt.alloc(), &lines[1..], 1)?);
+    assert!(rt; is_refused(&rt, rt.alloc(), lines.as_slice(), 1, "E8 TooLarge")?);
     assert!(rt; departs(&rt, rt.alloc(), b"f:\n", 1)?);
     // the last line has no line feed
     let text = program(alloc, "    li a0,1\n", "")?;

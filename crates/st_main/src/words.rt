@@ -1,34 +1,31 @@
-//! The words of the command line.
-ghost use Rattle.std.specs.Prelude.{◌≡◌, map, option_map, take, codes};
-ghost use Rattle.std.specs.Str.{bytes_eq};
-ghost use Rattle.std.specs.String.{string_bytes};
-ghost use Rattle.st_main.specs.Answer.{job_of};
+//! The job of the words, as far as it is built.
+ghost use Rattle.std.specs.Prelude.{◌≡◌, ◌↔◌, IsTrue, ◌∷◌, [], List, ℕ, map, length, IfSome, IfNone, string_bytes};
+ghost use Rattle.st_jobs.specs.Jobs.{asked_of, limit_settings};
+ghost use Rattle.st_main.specs.Answer.{standard_run, standard_limits};
 
-/// The file that is to be run: the words are `run`, `--workers`, `1` and a file name that doesn't begin with `-`.
-pub fn job_of(words: &[String]) -> Option<&str>
-    ensures { option_map (λ file. file.now) result ≡ job_of (map string_bytes words.now) }
+use st_base::limits::Limits;
+use st_jobs::Job;
+
+/// Whether the limits are those of a run that names none.
+fn is_standard(limits: &Limits) -> bool
+    ensures { IsTrue result ↔ (limit_settings limits.now ≡ standard_limits) }
 {
-    match words {
-        [command, option, value, file] => {
-            if command.as_bytes() == b"run".as_slice()
-                && option.as_bytes() == b"--workers".as_slice()
-                && value.as_bytes() == b"1".as_slice()
-                && !begins_with_dash(file.as_bytes())
-            {
-                Some(file.as_str())
-            } else {
-                None
-            }
-        }
-        _ => None,
-    }
+    limits.stack == 1_048_576 && limits.cells == 16_384 && limits.steps == 4_294_967_296
 }
 
-fn begins_with_dash(word: &[u8]) -> bool
-    ensures { result ≡ bytes_eq (take 1 word.now) (codes "-") }
+/// The one file of a run with one worker and the limits of a run that names none. Nothing else is built yet.
+pub fn file_to_run(job: &Job) -> Option<&[String]>
+    ensures some { IfSome result (λ names. (file : List ℕ) × (map (λ n. string_bytes n) names.now ≡ file ∷ []) × (asked_of job.now ≡ standard_run file)) }
+    ensures one { IfSome result (λ names. length names.now ≡ 1) }
+    ensures none { IfNone result ((file : List ℕ) → asked_of job.now ≡ standard_run file → ⊥) }
 {
-    match word {
-        [first, ..] => *first == b'-',
-        [] => false,
+    let Job::Run(args) = job else {
+        return None;
+    };
+    let names = args.names.as_slice();
+    if args.workers == 1 && is_standard(&args.limits) && names.len() == 1 {
+        Some(names)
+    } else {
+        None
     }
 }

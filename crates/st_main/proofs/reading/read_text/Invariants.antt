@@ -10,4 +10,4 @@ invariant-loop-files g l = record {
 }
 
 abbrev pub decreases-loop-files : goal.decreases-loop-files
-decreases-loop-files g l = 65537 - length l.text.items
+decreases-loop-files g l = 1048577 - length l.text.items

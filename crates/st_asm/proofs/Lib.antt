@@ -1,0 +1,13 @@
+pub mod EntryNames
+pub mod LineCuts
+pub mod LabelMaps
+pub mod Room
+pub mod ReadSteps
+pub mod ReadInstructions
+pub mod ReadStatements
+pub mod Units
+pub mod LineSteps
+pub mod Keeping
+pub mod Kept
+pub mod Apartness
+pub mod FaultFiles
