@@ -231,7 +231,7 @@ fn faults_in_threads(rt: HostRuntime) -> Result<(), Fail> {
             alloc,
             names.as_slice(),
             &trap,
-            10,
+            11,
             b"b.s:31: trap WrongHandle in thread [0,"
         )?
     );
