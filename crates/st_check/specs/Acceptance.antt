@@ -1,0 +1,55 @@
+-- When a unit is accepted (IsAcceptedUnit), and which fault is told where it isn't (IsFirstFault): the least of its faults of form; where
+-- it has none, the first undefined read.
+use Rattle.std.specs.Prelude.{◌≡◌, ◌⊎◌, ℕ, ◌<◌, List, [], ◌∷◌, Option, Some, None, slice_get, map, reverse}
+use Rattle.st_base.specs.declared.line.Line.{Line}
+use Rattle.st_base.specs.declared.form.FormKind.TheVariants.{UndefinedRead as UndefinedRead'}
+use Rattle.st_asm.specs.declared.unit.Function.{Function}
+use Rattle.st_model.specs.declared.program.Item.{Item}
+use Rattle.st_model.specs.declared.program.Program.{Program}
+use Rattle.st_model.specs.declared.program.ProgramFunction.{ProgramFunction}
+use Rattle.st_model.specs.Flow.{UndefinedRead}
+use Rattle.st_check.specs.declared.fault.FormFault.{FormFault}
+use Rattle.st_check.specs.declared.error.FormError.{FormError}
+use Rattle.st_check.specs.declared.error.FormError.TheVariants as errors
+use Rattle.st_check.specs.Faults.{unit_faults, least_fault}
+use Rattle.st_check.specs.Programs.{program_of}
+
+-- a unit has none of the faults of form, and no path of items of its program leads to an undefined read
+pub record IsAcceptedUnit (functions : List Function) : Type 0 where
+  pub formed : unit_faults functions ≡ []
+  pub defined : (f : ℕ) (function : ProgramFunction) → slice_get (program_of functions).functions f ≡ Some function → UndefinedRead (program_of functions) function → ⊥
+
+abbrev pub line_of : Option Item → Option Line
+line_of None = None
+line_of (Some item) = Some item.line
+
+-- the first lines of the items at these places
+abbrev pub lines_at : ProgramFunction → List ℕ → List (Option Line)
+lines_at function [] = []
+lines_at function (i ∷ is) = line_of (slice_get function.items i) ∷ lines_at function is
+
+-- no function before this one, and no item of it before this one, has an undefined read
+pub record IsFirstRead (p : Program) (f i : ℕ) : Type 0 where
+  pub functions : (g : ℕ) (function : ProgramFunction) → g < f → slice_get p.functions g ≡ Some function → UndefinedRead p function → ⊥
+  pub items : (function : ProgramFunction) → slice_get p.functions f ≡ Some function → (bad : UndefinedRead p function) → bad.at < i → ⊥
+
+-- the fault is told of the first item that has an undefined read, and carries the lines of a path to it
+pub record IsReadFault (p : Program) (fault : FormFault) : Type 0 where
+  pub f : ℕ
+  pub function : ProgramFunction
+  pub there : slice_get p.functions f ≡ Some function
+  pub bad : UndefinedRead p function
+  pub first : IsFirstRead p f bad.at
+  pub kind : fault.kind ≡ UndefinedRead'
+  pub line : fault.line ≡ bad.item.line
+  pub path : map Some fault.path ≡ lines_at function (reverse (bad.at ∷ bad.back))
+
+-- the fault that is told of a unit
+abbrev pub IsFirstFault : List Function → FormFault → Type 0
+IsFirstFault functions fault =
+    ((least_fault (unit_faults functions) ≡ Some (fault.line, fault.kind)) × (fault.path ≡ [])) ⊎ ((unit_faults functions ≡ []) × IsReadFault (program_of functions) fault)
+
+-- a refusal but for want of memory tells the unit's first fault, and the unit isn't accepted
+abbrev pub IsRefusal : List Function → FormError → Type 0
+IsRefusal functions (errors.Fault fault) = IsFirstFault functions fault × (IsAcceptedUnit functions → ⊥)
+IsRefusal functions errors.OutOfMemory = Unit {0}

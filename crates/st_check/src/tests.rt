@@ -1,0 +1,205 @@
+//! What no clause says: that the definitions mean what was meant, by texts and their first faults.
+use crate::accept::check;
+use crate::error::FormError;
+use crate::fault::FormFault;
+use crate::unit::first_form_fault;
+use st_asm::read_unit;
+use std::alloc::{AllocError, Global};
+use std::test::Fail;
+
+/// Lines 1 to 5: a whole prologue of 16 bytes.
+const HEAD: &str = "main:\n addi sp,sp,-16\n sd ra,8(sp)\n sd s0,0(sp)\n addi s0,sp,16\n";
+/// A whole epilogue.
+const TAIL: &str = " li a0,0\n ld ra,8(sp)\n ld s0,0(sp)\n addi sp,sp,16\n ret\n";
+/// A function `f` that returns 0, of nine lines.
+const CALLEE: &str =
+    "f:\n addi sp,sp,-16\n sd ra,8(sp)\n sd s0,0(sp)\n addi s0,sp,16\n li a0,0\n ld ra,8(sp)\n ld s0,0(sp)\n addi sp,sp,16\n ret\n";
+/// Lines 1 to 6 of `main`: a prologue that saves s8.
+const SAVING: &str =
+    "main:\n addi sp,sp,-32\n sd ra,24(sp)\n sd s0,16(sp)\n sd s8,8(sp)\n addi s0,sp,32\n";
+/// The epilogue to it.
+const RESTORING: &str =
+    " li a0,0\n ld ra,24(sp)\n ld s0,16(sp)\n ld s8,8(sp)\n addi sp,sp,32\n ret\n";
+
+/// The first fault of a text as its line and kind.
+fn fault(alloc: Global, parts: &[&str]) -> Result<String, AllocError> {
+    let mut text = Vec::new(alloc);
+    for part in parts {
+        text.extend_from_slice(part.as_bytes())?;
+    }
+    let mut texts = Vec::new(alloc);
+    texts.push(text)?;
+    if texts.len() != 1 {
+        return String::from_str(alloc, "no such number of files");
+    }
+    match read_unit(alloc, &texts) {
+        Ok(unit) => match first_form_fault(alloc, unit.functions())? {
+            Some((line, kind)) => format!(in alloc; "{} {:?}", line.line, kind),
+            None => String::from_str(alloc, ""),
+        },
+        Err(_) => String::from_str(alloc, "no unit"),
+    }
+}
+
+/// A fault as its line, its kind and the lines of its path.
+fn fault_text(alloc: Global, fault: &FormFault) -> Result<String, AllocError> {
+    let mut lines = Vec::new(alloc);
+    for line in fault.path.as_slice() {
+        lines.push(line.line)?;
+    }
+    format!(in alloc;
+        "{} {:?} {:?}",
+        fault.line.line,
+        fault.kind,
+        lines.as_slice()
+    )
+}
+
+/// What the check of a text says.
+fn told(alloc: Global, parts: &[&str]) -> Result<String, AllocError> {
+    let mut text = Vec::new(alloc);
+    for part in parts {
+        text.extend_from_slice(part.as_bytes())?;
+    }
+    let mut texts = Vec::new(alloc);
+    texts.push(text)?;
+    if texts.len() != 1 {
+        return String::from_str(alloc, "no such number of files");
+    }
+    let Ok(unit) = read_unit(alloc, &texts) else {
+        return String::from_str(alloc, "no unit");
+    };
+    match check(alloc, &unit) {
+        Ok(checked) => {
+            format!(in alloc;
+                "{} of {} functions",
+                checked.program().functions.len(),
+                checked.unit().functions().len()
+            )
+        }
+        Err(FormError::Fault(fault)) => fault_text(alloc, &fault),
+        Err(FormError::OutOfMemory) => String::from_str(alloc, "no memory"),
+    }
+}
+
+#[test]
+fn bodies_have_their_faults(rt: HostRuntime) -> Result<(), Fail> {
+    let rows = [
+        ("", ""),
+        (" call st_poll\n", ""),
+        (" mv a6,a7\n", ""),
+        (" beqz a0,.L0\n.L0:\n", ""),
+        (" sd a0,0(a1)\n", "6 SlotRange"),
+        (" sd a0,0(sp)\n", "6 SlotRange"),
+        (" ld a0,-16(s0)\n", "6 SlotRange"),
+        (" add a0,a6,a0\n", "6 Partition"),
+        (" mv a0,a6\n", "6 Partition"),
+        (" li s1,1\n", "6 NotSaved"),
+        (" j main\n", "6 BranchOut"),
+        (" .st_fork s8\n", "6 NotSaved"),
+        (" call st_end\n", "6 BadCall"),
+        (" la a0,main\n", "6 BadCall"),
+        (" ret\n", "6 Epilogue"),
+        (" ld ra,0(sp)\n", "6 Epilogue"),
+    ];
+    for (body, said) in rows {
+        assert_eq!(rt; fault(rt.alloc(), &[HEAD, body, TAIL])?.as_str(), said);
+    }
+    Ok(())
+}
+
+#[test]
+fn functions_have_their_faults(rt: HostRuntime) -> Result<(), Fail> {
+    let alloc = rt.alloc();
+    assert_eq!(rt; fault(alloc, &[CALLEE])?.as_str(), "1 NoMain");
+    assert_eq!(rt;
+        fault(alloc, &["main:\n .st_args 2,0\n", HEAD])?.as_str(),
+        "no unit"
+    );
+    assert_eq!(rt; fault(alloc, &["main:\n ret\n"])?.as_str(), "2 Prologue");
+    assert_eq!(rt; fault(alloc, &["main:\n"])?.as_str(), "1 Prologue");
+    assert_eq!(rt;
+        fault(
+            alloc,
+            &["main:\n addi sp,sp,-24\n sd ra,16(sp)\n sd s0,8(sp)\n addi s0,sp,24\n ebreak\n"]
+        )?
+        .as_str(),
+        "2 FrameSize"
+    );
+    assert_eq!(rt;
+        fault(
+            alloc,
+            &[
+                "main:\n addi sp,sp,-2032\n sd ra,2024(sp)\n sd s0,2016(sp)\n addi s0,sp,2032\n ebreak\n"
+            ]
+        )?
+        .as_str(),
+        ""
+    );
+    assert_eq!(rt; fault(alloc, &[HEAD, " nop\n"])?.as_str(), "6 FallsOut");
+    assert_eq!(rt; fault(alloc, &[HEAD])?.as_str(), "5 FallsOut");
+    assert_eq!(rt;
+        fault(alloc, &[HEAD, TAIL, " .st_fork t0\n"])?.as_str(),
+        "11 ForkPlace"
+    );
+    assert_eq!(rt;
+        fault(
+            alloc,
+            &[SAVING, " .st_fork s8\n call f\n", RESTORING, CALLEE]
+        )?
+        .as_str(),
+        ""
+    );
+    assert_eq!(rt;
+        fault(
+            alloc,
+            &[SAVING, " .st_fork s8\n.L1:\n call f\n", RESTORING, CALLEE]
+        )?
+        .as_str(),
+        "7 ForkPlace"
+    );
+    Ok(())
+}
+
+#[test]
+fn units_are_accepted_or_not(rt: HostRuntime) -> Result<(), Fail> {
+    let epilogue = " ld ra,8(sp)\n ld s0,0(sp)\n addi sp,sp,16\n ret\n";
+    let wide = " addi sp,sp,-32\n sd ra,24(sp)\n sd s0,16(sp)\n addi s0,sp,32\n";
+    let wide_epilogue = " ld ra,24(sp)\n ld s0,16(sp)\n addi sp,sp,32\n ret\n";
+    let saving_epilogue = " ld ra,24(sp)\n ld s0,16(sp)\n ld s8,8(sp)\n addi sp,sp,32\n ret\n";
+    let body = " addi sp,sp,-16\n sd ra,8(sp)\n sd s0,0(sp)\n addi s0,sp,16\n";
+    let rows: [(&[&str], &str); 6] = [
+        (
+            &["main:\n .st_args 1,0\n", body, epilogue],
+            "1 of 1 functions",
+        ),
+        (
+            &[
+                "main:\n .st_args 1,0\n",
+                wide,
+                " beqz a0,.L0\n sd a0,-24(s0)\n.L0:\n ld a0,-24(s0)\n",
+                wide_epilogue,
+            ],
+            "10 UndefinedRead [3, 7, 10]",
+        ),
+        (
+            &[HEAD, " li t0,1\n call st_poll\n mv a0,t0\n", epilogue],
+            "8 UndefinedRead [2, 6, 7, 8]",
+        ),
+        (
+            &[SAVING, " .st_fork s8\n call f\n", saving_epilogue, CALLEE],
+            "9 UndefinedRead [2, 7, 9]",
+        ),
+        (
+            &[
+                "main:\n addi sp,sp,-16\n sd s0,8(sp)\n addi s0,sp,16\n li a0,0\n ld s0,8(sp)\n addi sp,sp,16\n jr ra\n",
+            ],
+            "3 Prologue []",
+        ),
+        (&["main:\n .st_args 2,0\n", body, TAIL], "1 NoMain []"),
+    ];
+    for (parts, said) in rows {
+        assert_eq!(rt; told(rt.alloc(), parts)?.as_str(), said);
+    }
+    Ok(())
+}
