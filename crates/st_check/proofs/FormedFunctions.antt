@@ -13,8 +13,7 @@ use Rattle.st_check.specs.Programs.{items_of, function_by, program_function, pro
 use Rattle.st_check.proofs.ShapeFacts.{HasShape, HasFrameOf, shape_of-has}
 use Rattle.st_check.proofs.Frames.{frame-has}
 use Rattle.st_check.proofs.LineRight.{append-none}
-use Rattle.st_check.proofs.ItemsFit.{AreInstructions, items-fit}
-use Rattle.st_check.proofs.BodyLines.{ShapeAre, shape_of-are, lines-from_all}
+use Rattle.st_check.proofs.ItemsFit.{AreInstructions, ShapeIsSound, shape_of-sound, items-fit}
 use Rattle.st_check.proofs.Openings.{items-none_opens}
 
 -- successors lie in the function, behind its prologue
@@ -32,7 +31,7 @@ once-all : (functions : List Function) (function : Function) (shape : Formed) (i
 once-all functions function shape zero item here opens = refl
 once-all functions function shape (suc i) item here opens = absurd (items-none_opens functions shape.groups false shape.groups i item here opens)
 
-by-shape : (functions : List Function) (f : ℕ) (function : Function) (s : Shape) → IsSoundFunction functions function → HasShape function.slots s → ShapeAre functions s → shape_faults functions f function s ≡ [] → Stays (function_by functions function s) → IsFormed (program_of functions) (function_by functions function s)
+by-shape : (functions : List Function) (f : ℕ) (function : Function) (s : Shape) → IsSoundFunction functions function → HasShape function.slots s → ShapeIsSound functions s → shape_faults functions f function s ≡ [] → Stays (function_by functions function s) → IsFormed (program_of functions) (function_by functions function s)
 by-shape functions f function (faulty fault) is has are none stays = cc
 by-shape functions f function (formed shape) is has are none stays = record {
   ints = is.ints;
@@ -46,4 +45,4 @@ by-shape functions f function (formed shape) is has are none stays = record {
 
 pub function-formed : (functions : List Function) (f : ℕ) (function : Function) → IsSoundFunction functions function → function_faults functions f function ≡ [] → Stays (program_function functions function) → IsFormed (program_of functions) (program_function functions function)
 function-formed functions f function is none stays =
-    by-shape functions f function (shape_of function) is (shape_of-has function) (shape_of-are functions function (lines-from_all functions function.items is.items)) none stays
+    by-shape functions f function (shape_of function) is (shape_of-has function) (shape_of-sound functions function is.items) none stays

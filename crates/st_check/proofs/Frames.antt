@@ -12,9 +12,9 @@ use Rattle.st_asm.specs.declared.unit.Function.{Function}
 use Rattle.st_model.specs.Accepted.{HasFrame, MayWrite}
 use Rattle.st_check.specs.Shape.{Formed, formed, is_frame_size, saved_registers}
 use Rattle.st_check.specs.Faults.{is_in, is_saved, may_write}
-use Rattle.st_check.specs.Programs.{saved_place, saved_bits, function_by}
-use Rattle.st_check.proofs.SavedBits.{AreAmong, saved-mask}
-use Rattle.st_check.proofs.ShapeFacts.{HasFrameOf, saved_registers-bits, saved_bits-few, saved_bits-ones}
+use Rattle.st_check.specs.Programs.{saved_bit, saved_bits, function_by}
+use Rattle.st_check.proofs.SavedBits.{AreAmong, saved-mask, saved_registers-bits}
+use Rattle.st_check.proofs.ShapeFacts.{HasFrameOf, saved_bits-few, saved_bits-ones}
 
 pub and-both : (a b : Bool) → (a && b) ≡ true → (a ≡ true) × (b ≡ true)
 and-both true b h = (refl, h)
@@ -46,14 +46,14 @@ frame-has functions function shape has =
       room = omega (arith, ones, room);
     }
 
-in-set : (saved : List Reg) (r : Reg) → AreAmong saved saved_registers → is_in r saved ≡ true → bit_at (saved_bits saved) (saved_place r) ≡ 1
+in-set : (saved : List Reg) (r : Reg) → AreAmong saved saved_registers → is_in r saved ≡ true → bit_at (saved_bits saved) (saved_bit r) ≡ 1
 in-set saved r among there =
     let m = saved-mask 0 saved saved_registers among saved_registers-bits in
     let b = m.each r there in
     let total : saved_bits saved ≡ 2 ^ 0 * mask_l m.bits = m.total in
     let same : saved_bits saved ≡ mask_l m.bits = omega (arith, total) in
-    let place : saved_place r ≡ 0 + b.k = b.place in
-    let at : saved_place r ≡ b.k = omega (arith, place) in
+    let place : saved_bit r ≡ 0 + b.k = b.place in
+    let at : saved_bit r ≡ b.k = omega (arith, place) in
     (λ j. bit_at (same j) (at j)) ∙ bit_mask_l m.bits b.k ∙ ap (λ t. cond t 1 0) b.set
 
 saved-in : (s i : Bool) → (not s || i) ≡ true → s ≡ true → i ≡ true
@@ -79,7 +79,7 @@ pub may_write-bits : (functions : List Function) (function : Function) (shape : 
 may_write-bits functions function shape r among may = (
   λ nine.
       let there : is_in r shape.saved ≡ true = saved-in (is_saved r) (is_in r shape.saved) may (is_saved-nine (reg_number r) nine) in
-      let place : saved_place r ≡ 0 = ap (λ n. cond (n == 9) 0 (n - 17)) nine in
+      let place : saved_bit r ≡ 0 = ap (λ n. cond (n == 9) 0 (n - 17)) nine in
       sym (ap (bit_at (saved_bits shape.saved)) place) ∙ in-set shape.saved r among there,
   λ within.
       let parts = and-both (nat_le 18 (reg_number r)) _ within in
@@ -87,6 +87,6 @@ may_write-bits functions function shape r among may = (
       let high : reg_number r < 28 = ltb-true _ _ parts.1 in
       let saved : is_saved r ≡ true = between-saved (reg_number r) low high in
       let there : is_in r shape.saved ≡ true = saved-in (is_saved r) (is_in r shape.saved) may saved in
-      let place : saved_place r ≡ reg_number r - 17 = place-of (reg_number r) (not-nine (reg_number r) low) in
+      let place : saved_bit r ≡ reg_number r - 17 = place-of (reg_number r) (not-nine (reg_number r) low) in
       sym (ap (bit_at (saved_bits shape.saved)) place) ∙ in-set shape.saved r among there,
 )

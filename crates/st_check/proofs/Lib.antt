@@ -14,8 +14,8 @@ pub mod LineFits
 pub mod LineRight
 pub mod LineKinds
 pub mod InsFits
-pub mod ItemsFit
 pub mod BodyLines
+pub mod ItemsFit
 pub mod Openings
 pub mod FormedFunctions
 pub mod BodyPlaces
@@ -26,3 +26,7 @@ pub mod OpRows
 pub mod Sound
 pub mod ReadFaults
 pub mod Accepting
+pub mod Weights
+pub mod ProgramItems
+pub mod UnitLines
+pub mod Sizes

@@ -11,7 +11,7 @@ use Rattle.st_base.specs.declared.form.FormKind.TheVariants.{UndefinedRead as Un
 use Rattle.st_model.specs.declared.program.Program.{Program}
 use Rattle.st_model.specs.declared.program.ProgramFunction.{ProgramFunction}
 use Rattle.st_model.specs.Flow.{Leads, UndefinedRead}
-use Rattle.st_flow.specs.Undefined.{ReadsPlace, LeavesUndefined}
+use Rattle.st_flow.specs.Undefined.{ReadsPlace, LeavesUndefined, PassesOnce}
 use Rattle.st_check.specs.declared.fault.FormFault.{FormFault}
 use Rattle.st_check.specs.Acceptance.{line_of, lines_at, IsReadFault}
 use Rattle.st_check.specs.Reads.{IsToldOf, ReadsDefinedBelow, ReadsDefined}
@@ -59,8 +59,8 @@ path-inside p function at place path reads leaves =
 
 -- ---- what is told
 
-pub read-told : (p : Program) (function : ProgramFunction) (at place : ℕ) (path : List ℕ) (line : Line) (lines : List Line) → ReadsPlace p function at place → LeavesUndefined function place at path → ((read : UndefinedRead p function) → at ≤ read.at) → Some line ≡ line_of (slice_get function.items at) → map Some lines ≡ lines_at function path → IsToldOf p function (record { line = line; kind = UndefinedRead'; path = lines })
-read-told p function at place path line lines reads leaves first here told =
+pub read-told : (p : Program) (function : ProgramFunction) (at place : ℕ) (path : List ℕ) (line : Line) (lines : List Line) → ReadsPlace p function at place → LeavesUndefined function place at path → PassesOnce function place path → ((read : UndefinedRead p function) → at ≤ read.at) → Some line ≡ line_of (slice_get function.items at) → map Some lines ≡ lines_at function path → IsToldOf p function (record { line = line; kind = UndefinedRead'; path = lines })
+read-told p function at place path line lines reads leaves shape first here told =
     let turned : path ≡ reverse (at ∷ leaves.0) = sym (reverse-reverse path) ∙ ap reverse leaves.1 in
     let there : Some line ≡ Some reads.0.line = here ∙ ap line_of reads.1 in
     record {
@@ -69,6 +69,7 @@ read-told p function at place path line lines reads leaves first here told =
       kind = refl;
       line = (let same : line ≡ reads.0.line = cc in same);
       path = told ∙ ap (lines_at function) turned;
+      once = subst (PassesOnce function place) turned shape;
     }
 
 none-earlier : (p : Program) (function other : ProgramFunction) (at : ℕ) → other ≡ function → ((read : UndefinedRead p function) → at ≤ read.at) → (read : UndefinedRead p other) → read.at < at → ⊥
@@ -92,6 +93,7 @@ told-first p f function fault there below told = record {
   kind = told.kind;
   line = told.line;
   path = told.path;
+  once = told.once;
 }
 
 below-by : (p : Program) (f g : ℕ) (function other : ProgramFunction) → slice_get p.functions f ≡ Some function → (UndefinedRead p function → ⊥) → ReadsDefinedBelow p f → slice_get p.functions g ≡ Some other → UndefinedRead p other → (g < f) ⊎ (g ≡ f) → ⊥

@@ -14,7 +14,7 @@ use Rattle.st_asm.specs.declared.unit.Function.{Function}
 use Rattle.st_line.specs.declared.source.SourceIns.{SourceIns}
 use Rattle.st_check.specs.Shape.{saved_registers, Opening, departs, opened, open_lines, open_frame, frame_of, opening_of, Body, broken, whole, Shape, faulty, formed, is_frame_size, magnitude, shape_when, shape_by, shape_behind, shape_of, first_line, body_of, prologue_lines}
 use Rattle.st_check.specs.Programs.{saved_bits}
-use Rattle.st_check.proofs.SavedBits.{AreAmong, HaveBits, saved-mask}
+use Rattle.st_check.proofs.SavedBits.{AreAmong, saved-mask, saved_registers-bits}
 use Rattle.st_check.proofs.SavedRegisters.{SavesAmong, open_saved-among}
 
 line-among : (b : Bool) (line : Line) (o : Opening) → SavesAmong saved_registers o → SavesAmong saved_registers (cond b o (departs line))
@@ -61,9 +61,6 @@ behind-has function (opened frame saved rest) among = when-has function.slots (i
 pub shape_of-has : (function : Function) → HasShape function.slots (shape_of function)
 unfolding shape_of
 shape_of-has function = behind-has function (opening_of function.line function.items) (opening_of-among function.line function.items)
-
-pub saved_registers-bits : HaveBits 0 saved_registers
-saved_registers-bits = (refl, (refl, (refl, (refl, (refl, (refl, (refl, (refl, (refl, (refl, (refl, tt)))))))))))
 
 pub saved_bits-few : (saved : List Reg) → AreAmong saved saved_registers → saved_bits saved < 2048
 saved_bits-few saved among =

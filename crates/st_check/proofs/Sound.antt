@@ -114,7 +114,7 @@ instruction-sound functions rodata (source.Branch op rs1 rs2 to) is = (kind-mere
 instruction-sound functions rodata (source.Jump to) is = ∥∥₁_elim is (label-prop functions to) (target-labelled functions rodata to)
 instruction-sound functions rodata _ is = tt
 
-function-is : (functions : List Function) (rodata : List ℕ) (f : ℕ) (function : Function) → slice_get functions f ≡ Some function → IsUnit functions rodata → IsFunction functions rodata function
+pub function-is : (functions : List Function) (rodata : List ℕ) (f : ℕ) (function : Function) → slice_get functions f ≡ Some function → IsUnit functions rodata → IsFunction functions rodata function
 function-is functions rodata f function there is =
     subst (IsFunction functions rodata) (get_or_from_slice_get functions f function function there) (is.each f function (slice_get_within functions f function there))
 

@@ -18,8 +18,7 @@ use Rattle.st_check.specs.Faults.{empty_faults, line_before, group_faults, line_
 use Rattle.st_check.specs.Programs.{items_of, item_of_target, call_kind, function_place, line_kind, function_by, program_function}
 use Rattle.st_check.proofs.Frames.{and-both}
 use Rattle.st_check.proofs.LineRight.{append-none, when-none, line-right}
-use Rattle.st_check.proofs.ItemsFit.{AreInstructions}
-use Rattle.st_check.proofs.BodyLines.{ShapeAre, shape_of-are, lines-from_all}
+use Rattle.st_check.proofs.ItemsFit.{AreInstructions, ShapeIsSound, shape_of-sound}
 use Rattle.st_check.proofs.BodyPlaces.{AreAt, ShapeAt, shape_of-at}
 use Rattle.st_check.proofs.Staying.{items-some, line-goes_on, number-stays}
 use Rattle.st_check.proofs.FormedFunctions.{Stays}
@@ -88,14 +87,14 @@ line-follows end count ins i j behind (inr inside) = inr inside
 items-follow : (functions : List Function) (end f h : ℕ) (shape : Formed) (gs : List (ℕ × Group)) (forked : Bool) (hs : List (ℕ × Group)) → ((ins : SourceIns) → IsSound functions ins → TargetLands end f shape gs ins) → AreInstructions functions hs → group_faults functions f h shape hs ≡ [] → (i j k : ℕ) (item : Item) → slice_get (items_of functions gs forked hs) k ≡ Some item → IsNext item.kind i j → Follows end (length (items_of functions gs forked hs)) i j k
 items-follow functions end f h shape gs forked [] lands are none i j k item here next = cc
 items-follow functions end f h shape gs true ((at, epilogue line) ∷ hs) lands are none i j k item here next =
-    items-follow functions end f h shape gs false hs lands are none i j k item here next
+    items-follow functions end f h shape gs false hs lands are.1 none i j k item here next
 items-follow functions end f h shape gs true ((at, single l) ∷ hs) lands are none i j k item here next =
     items-follow functions end f h shape gs false hs lands are.1 (append-none (line_faults functions f h shape l hs) _ none).1 i j k item here next
 items-follow functions end f h shape gs false ((at, epilogue line) ∷ hs) lands are none i j zero item here next =
     let same : item ≡ record { line = line; kind = items.Epilogue } = cc in
     absurd (subst (λ (it : Item). IsNext it.kind i j) same next)
 items-follow functions end f h shape gs false ((at, epilogue line) ∷ hs) lands are none i j (suc k) item here next =
-    follows-more end (length (items_of functions gs false hs)) i j k (items-follow functions end f h shape gs false hs lands are none i j k item here next)
+    follows-more end (length (items_of functions gs false hs)) i j k (items-follow functions end f h shape gs false hs lands are.1 none i j k item here next)
 items-follow functions end f h shape gs false ((at, single l) ∷ hs) lands are none i j zero item here next =
     let parts = append-none (line_faults functions f h shape l hs) _ none in
     let right = line-right functions f h shape l hs parts.0 in
@@ -143,7 +142,7 @@ formed-stays functions f function shape there are places some_item none (suc k) 
     follows-stays (length (items_of functions shape.groups false shape.groups)) j k
     (items-follow functions (suc (length (items_of functions shape.groups false shape.groups))) f function.slots shape shape.groups false shape.groups (line-lands functions f function shape there places none) are none (suc k) j k item here next)
 
-by-shape : (functions : List Function) (f : ℕ) (function : Function) (s : Shape) → slice_get functions f ≡ Some function → ShapeAre functions s → ShapeAt function.items s → shape_faults functions f function s ≡ [] → Stays (function_by functions function s)
+by-shape : (functions : List Function) (f : ℕ) (function : Function) (s : Shape) → slice_get functions f ≡ Some function → ShapeIsSound functions s → ShapeAt function.items s → shape_faults functions f function s ≡ [] → Stays (function_by functions function s)
 by-shape functions f function (faulty fault) there are places none = cc
 by-shape functions f function (formed shape) there are places none =
     let parts = append-none (empty_faults (line_before function.line (4 + length shape.saved) function.items) shape.groups) _ none in
@@ -151,4 +150,4 @@ by-shape functions f function (formed shape) there are places none =
 
 pub function-stays : (functions : List Function) (f : ℕ) (function : Function) → slice_get functions f ≡ Some function → IsSoundFunction functions function → function_faults functions f function ≡ [] → Stays (program_function functions function)
 function-stays functions f function there is none =
-    by-shape functions f function (shape_of function) there (shape_of-are functions function (lines-from_all functions function.items is.items)) (shape_of-at function) none
+    by-shape functions f function (shape_of function) there (shape_of-sound functions function is.items) (shape_of-at function) none

@@ -4,10 +4,12 @@ use Rattle.std.specs.Prelude.{◌≡◌, ◌⊎◌, ℕ, ◌<◌, List, [], ◌�
 use Rattle.st_base.specs.declared.line.Line.{Line}
 use Rattle.st_base.specs.declared.form.FormKind.TheVariants.{UndefinedRead as UndefinedRead'}
 use Rattle.st_asm.specs.declared.unit.Function.{Function}
+use Rattle.st_asm.specs.declared.unit.SourceLine.{SourceLine}
 use Rattle.st_model.specs.declared.program.Item.{Item}
 use Rattle.st_model.specs.declared.program.Program.{Program}
 use Rattle.st_model.specs.declared.program.ProgramFunction.{ProgramFunction}
 use Rattle.st_model.specs.Flow.{UndefinedRead}
+use Rattle.st_flow.specs.Undefined.{PassesOnce}
 use Rattle.st_check.specs.declared.fault.FormFault.{FormFault}
 use Rattle.st_check.specs.declared.error.FormError.{FormError}
 use Rattle.st_check.specs.declared.error.FormError.TheVariants as errors
@@ -33,7 +35,8 @@ pub record IsFirstRead (p : Program) (f i : ℕ) : Type 0 where
   pub functions : (g : ℕ) (function : ProgramFunction) → g < f → slice_get p.functions g ≡ Some function → UndefinedRead p function → ⊥
   pub items : (function : ProgramFunction) → slice_get p.functions f ≡ Some function → (bad : UndefinedRead p function) → bad.at < i → ⊥
 
--- the fault is told of the first item that has an undefined read, and carries the lines of a path to it
+-- the fault is told of the first item that has an undefined read, and carries the lines of a path to it, which
+-- passes no item twice up to the last that takes the place's definition away, and none twice behind it
 pub record IsReadFault (p : Program) (fault : FormFault) : Type 0 where
   pub f : ℕ
   pub function : ProgramFunction
@@ -43,11 +46,36 @@ pub record IsReadFault (p : Program) (fault : FormFault) : Type 0 where
   pub kind : fault.kind ≡ UndefinedRead'
   pub line : fault.line ≡ bad.item.line
   pub path : map Some fault.path ≡ lines_at function (reverse (bad.at ∷ bad.back))
+  pub once : PassesOnce function bad.place (reverse (bad.at ∷ bad.back))
 
 -- the fault that is told of a unit
 abbrev pub IsFirstFault : List Function → FormFault → Type 0
 IsFirstFault functions fault =
     ((least_fault (unit_faults functions) ≡ Some (fault.line, fault.kind)) × (fault.path ≡ [])) ⊎ ((unit_faults functions ≡ []) × IsReadFault (program_of functions) fault)
+
+-- ---- lines
+
+-- the line is that of a function's label, or of one of its items
+abbrev pub IsFunctionLine : Function → Line → Type 0
+IsFunctionLine function line = (function.line ≡ line) ⊎ ((i : ℕ) × ((item : SourceLine) × (slice_get function.items i ≡ Some item) × (item.line ≡ line)))
+
+-- the line is one of the functions' lines
+abbrev pub IsUnitLine : List Function → Line → Type 0
+IsUnitLine functions line = (f : ℕ) × ((function : Function) × (slice_get functions f ≡ Some function) × IsFunctionLine function line)
+
+-- the line of a fault: one of the functions', or line 1 of file 1 where there is no main
+abbrev pub IsFaultLine : List Function → Line → Type 0
+IsFaultLine functions line = (line ≡ record { file = 1; line = 1 }) ⊎ IsUnitLine functions line
+
+abbrev pub IsErrorLine : List Function → FormError → Type 0
+IsErrorLine functions (errors.Fault fault) = IsFaultLine functions fault.line
+IsErrorLine functions errors.OutOfMemory = Unit {0}
+
+-- each item of a program has one of the functions' lines
+abbrev pub HasUnitLines : List Function → Program → Type 0
+HasUnitLines functions p = (f i : ℕ) (function : ProgramFunction) (item : Item) → slice_get p.functions f ≡ Some function → slice_get function.items i ≡ Some item → IsUnitLine functions item.line
+
+-- ---- refusals
 
 -- a refusal but for want of memory tells the unit's first fault, and the unit isn't accepted
 abbrev pub IsRefusal : List Function → FormError → Type 0

@@ -94,13 +94,13 @@ items_of functions groups false ((at, single l) ∷ gs) =
 -- ---- functions
 
 -- s1 is x9, and s2 to s11 are x18 to x27
-abbrev pub saved_place : Reg → ℕ
-saved_place r = if reg_number r == 9 then 0 else (reg_number r - 17)
+abbrev pub saved_bit : Reg → ℕ
+saved_bit r = if reg_number r == 9 then 0 else (reg_number r - 17)
 
 -- the saved registers as bits: bit i-1 stands for s_i
 abbrev pub saved_bits : List Reg → ℕ
 saved_bits [] = 0
-saved_bits (r ∷ rs) = 2 ^ saved_place r + saved_bits rs
+saved_bits (r ∷ rs) = 2 ^ saved_bit r + saved_bits rs
 
 abbrev pub function_by : List Function → Function → Shape → ProgramFunction
 function_by functions function (faulty fault) =

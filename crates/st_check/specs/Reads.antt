@@ -4,6 +4,7 @@ use Rattle.st_base.specs.declared.form.FormKind.TheVariants.{UndefinedRead as Un
 use Rattle.st_model.specs.declared.program.Program.{Program}
 use Rattle.st_model.specs.declared.program.ProgramFunction.{ProgramFunction}
 use Rattle.st_model.specs.Flow.{UndefinedRead}
+use Rattle.st_flow.specs.Undefined.{PassesOnce}
 use Rattle.st_check.specs.declared.fault.FormFault.{FormFault}
 use Rattle.st_check.specs.Acceptance.{lines_at}
 
@@ -14,6 +15,7 @@ pub record IsToldOf (p : Program) (function : ProgramFunction) (fault : FormFaul
   pub kind : fault.kind ≡ UndefinedRead'
   pub line : fault.line ≡ bad.item.line
   pub path : map Some fault.path ≡ lines_at function (reverse (bad.at ∷ bad.back))
+  pub once : PassesOnce function bad.place (reverse (bad.at ∷ bad.back))
 
 -- the functions before a place have no undefined read
 abbrev pub ReadsDefinedBelow : Program → ℕ → Type 0

@@ -1,7 +1,8 @@
 //! Whether a unit is accepted.
 ghost use Rattle.std.specs.Prelude.{◌≡◌, IfOk, IfErr};
 ghost use Rattle.st_model.specs.Accepted.{IsAccepted};
-ghost use Rattle.st_check.specs.Acceptance.{IsAcceptedUnit, IsRefusal};
+ghost use Rattle.st_model.specs.Layout.{HasSize};
+ghost use Rattle.st_check.specs.Acceptance.{HasUnitLines, IsAcceptedUnit, IsErrorLine, IsRefusal};
 ghost use Rattle.st_check.specs.Programs.{program_of as program_of'};
 
 use crate::error::FormError;
@@ -22,6 +23,8 @@ pub struct Checked<'u> {
     ghost is_accepted_unit: { ∥ IsAcceptedUnit unit.now.functions ∥₁ },
     ghost is_program: { ∥ program ≡ program_of' unit.now.functions ∥₁ },
     ghost is_accepted: { ∥ IsAccepted program ∥₁ },
+    ghost has_size: { ∥ HasSize program ∥₁ },
+    ghost has_lines: { ∥ HasUnitLines unit.now.functions program ∥₁ },
 }
 
 impl Checked<'_> {
@@ -47,6 +50,7 @@ impl Checked<'_> {
 pub fn check(alloc: Global, unit: &Unit) -> Result<Checked<'_>, FormError>
     ensures unit { IfOk result (λ checked. checked.unit.now ≡ unit.now) }
     ensures fault { IfErr result (IsRefusal unit.now.functions) }
+    ensures line { IfErr result (λ error. ∥ IsErrorLine unit.now.functions error ∥₁) }
 {
     let functions = unit.functions();
     if let Some((line, kind)) = first_form_fault(alloc, functions)? {

@@ -5,7 +5,7 @@ ghost use Rattle.std.specs.Ordering.{nat_cmp};
 ghost use Rattle.std.specs.Option.{option_or};
 ghost use Rattle.st_asm.specs.declared.unit.Function.{Function as Function'};
 ghost use Rattle.st_check.specs.Shape.{Group as Group', formed};
-ghost use Rattle.st_check.specs.Programs.{is_fork_group, item_of_target, data_address, call_kind, function_place, called, call_behind, line_kind, items_of, saved_place, saved_bits, function_by, program_function, program_of};
+ghost use Rattle.st_check.specs.Programs.{is_fork_group, item_of_target, data_address, call_kind, function_place, called, call_behind, line_kind, items_of, saved_bit, saved_bits, function_by, program_function, program_of};
 ghost use Rattle.st_check.specs.Views.{TellsNames, TellsNumbers, number_in, item_of, prologue_item, formed_view, group_view, groups_view};
 
 use crate::body::{Group, Placed};
@@ -269,7 +269,7 @@ fn numbers_of(alloc: Global, groups: &[Placed<'_>]) -> Result<Numbers, AllocErro
 
 /// The bit of a saved register.
 fn bit_of(reg: Reg) -> u32
-    ensures value { result ≡ 2 ^ saved_place reg }
+    ensures value { result ≡ 2 ^ saved_bit reg }
     ensures few { result ≤ 16384 }
 {
     match reg {
