@@ -1,0 +1,10 @@
+mod CodeSize
+mod Sizes
+mod Rows
+mod Distances
+mod Ready
+mod Near
+mod PartsReady
+mod ItemsReady
+mod Assembled
+mod Rest

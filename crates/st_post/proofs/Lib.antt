@@ -1,0 +1,5 @@
+pub mod CodeSize
+pub mod ItemPlaces
+pub mod ProgramLengths
+pub mod SavedRegisters
+pub mod WordCounts
