@@ -1,0 +1,10 @@
+pub mod Encodings
+pub mod Steps
+pub mod Views
+pub mod Promises
+pub mod Careful
+pub mod RunLaws
+pub mod Plain
+pub mod Sizes
+pub mod Laws
+pub mod Leased

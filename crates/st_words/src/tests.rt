@@ -1,0 +1,166 @@
+//! Each step once, with the words that it leaves: over the words alone, where the numbers come from the table of words in docs/board.md, and
+//! the draws over a board.
+ghost use Rattle.std.specs.Prelude.{◌≡◌, length, IfOk};
+ghost use Rattle.st_words.specs.Encodings.{counter_word, count_after, count_in};
+ghost use Rattle.st_words.specs.Laws.{named, progress_of};
+ghost use Rattle.st_words.specs.Sizes.{SizedWords};
+ghost use Rattle.st_words.specs.Views.{no_load};
+
+use crate::board::{Board, Next};
+use crate::plain::PlainBoard;
+use crate::view::{CellWord, Slot};
+use crate::words::Words;
+use st_base::chain::{Chain, Note, Waiting};
+use st_base::limits::Limits;
+use std::alloc::{AllocError, Global};
+use std::marker::Brand;
+use std::test::Fail;
+
+/// Names the view after a step by the step alone.
+struct Plainly;
+
+impl Next for Plainly {
+    ghost after = { λ v s a. named (progress_of v) v s a };
+
+    ghost load = { λ _ _ _. no_load };
+}
+
+/// Limits of 16 cells, and stacks of 128 words.
+fn small() -> Limits
+    ensures cells { result.cells ≡ 16 }
+    ensures stack { result.stack ≡ 1024 }
+{
+    Limits {
+        stack: 1024,
+        cells: 16,
+        steps: 1,
+    }
+}
+
+/// The words of a board of two workers with these limits.
+fn opened(alloc: Global) -> Result<Words, AllocError>
+    ensures { IfOk result (λ words. SizedWords words 2 × (length words.owners ≡ 16) × (length words.stack ≡ 256)) }
+{
+    Words::open(alloc, &small(), 2)
+}
+
+/// The State word of a counter after one `done`.
+fn counted() -> u64
+    ensures { result ≡ counter_word (count_after (count_in 0)) 0 }
+{
+    131_072
+}
+
+fn chain(cell: u32) -> Chain {
+    Chain {
+        cell,
+        pc: 0x1_0000,
+        fp: 0x8000_0400,
+        saved: [0; 11],
+        note: Note {
+            cell,
+            forks: 0,
+            counters: 0,
+            bytes: 0,
+        },
+        wait: Waiting::Ready,
+    }
+}
+
+#[test]
+fn draws_go_past_the_cells(rt: HostRuntime) -> Result<(), Fail> {
+    let mut board = PlainBoard::open::<Brand>(rt.alloc(), &small(), 2)?;
+    for n in 1..17u64 {
+        assert_eq!(rt; board.draw::<Plainly>(0), n);
+    }
+    Ok(())
+}
+
+#[test]
+fn the_root_is_taken_once(rt: HostRuntime) -> Result<(), Fail> {
+    let limits = small();
+    let mut board = PlainBoard::open::<Brand>(rt.alloc(), &limits, 2)?;
+    if board.root_take::<Plainly>(0) {
+        let found = board.slot_take::<Plainly>(0, Slot::Cell(0));
+        assert!(rt; matches!(found, Some(Chain { cell: 0, .. })));
+    }
+    assert!(rt; !board.root_take::<Plainly>(1));
+    assert_eq!(rt; board.active_load::<Plainly>(1), 1);
+    assert_eq!(rt; board.stop_load::<Plainly>(1), 0);
+    assert_eq!(rt; board.mail_load::<Plainly>(1), 0);
+    Ok(())
+}
+
+#[test]
+fn words_are_stored(rt: HostRuntime) -> Result<(), Fail> {
+    let mut words = opened(rt.alloc())?;
+    words.stack_store(255, 7);
+    assert_eq!(rt; words.stack_load(255), 7);
+    words.cell_store(15, CellWord::Next, 16);
+    assert_eq!(rt; words.cell_load(15, CellWord::Next), 16);
+    assert_eq!(rt; words.cell_load(15, CellWord::Trap), 0);
+    words.mail_store(1, 2);
+    assert_eq!(rt; words.mail_load(1), 2);
+    Ok(())
+}
+
+#[test]
+fn the_first_words_are_the_roots(rt: HostRuntime) -> Result<(), Fail> {
+    let mut words = opened(rt.alloc())?;
+    assert_eq!(rt; words.cell_load(0, CellWord::Owner), 1);
+    assert_eq!(rt; words.cell_load(0, CellWord::Standing), 3);
+    assert_eq!(rt; words.active_add(true), 1);
+    assert_eq!(rt; words.active_add(false), 2);
+    assert_eq!(rt; words.active, 1);
+    assert!(rt; words.root_take());
+    assert!(rt; !words.root_take());
+    Ok(())
+}
+
+#[test]
+fn a_state_is_changed_from_what_was_found(rt: HostRuntime) -> Result<(), Fail> {
+    let mut words = opened(rt.alloc())?;
+    assert_eq!(rt; words.cell_change(5, 0, 3), Ok(()));
+    assert_eq!(rt; words.cell_change(5, 0, 9), Err(3));
+    assert_eq!(rt; words.cell_change(6, 0, counted()), Ok(()));
+    assert_eq!(rt; words.cell_load(6, CellWord::State), 131_072);
+    Ok(())
+}
+
+#[test]
+fn a_request_that_is_answered_is_not_withdrawn(rt: HostRuntime) -> Result<(), Fail> {
+    let mut words = opened(rt.alloc())?;
+    assert_eq!(rt; words.request_change(1, 0, 1), Ok(()));
+    assert_eq!(rt; words.request_load(1), 1);
+    assert_eq!(rt; words.request_change(1, 1, 32), Ok(()));
+    assert_eq!(rt; words.request_change(1, 1, 0), Err(32));
+    Ok(())
+}
+
+#[test]
+fn a_limit_is_written_once(rt: HostRuntime) -> Result<(), Fail> {
+    let mut words = opened(rt.alloc())?;
+    assert_eq!(rt; words.stop_set(258), Ok(()));
+    assert_eq!(rt; words.stop_set(3), Err(258));
+    assert_eq!(rt; words.stop, 258);
+    Ok(())
+}
+
+#[test]
+fn a_slot_is_empty_once_taken(rt: HostRuntime) -> Result<(), Fail> {
+    let mut words = opened(rt.alloc())?;
+    assert!(rt; matches!(words.slot_take(Slot::Cell(0)), Some(Chain { cell: 0, .. })));
+    assert!(rt; words.slot_take(Slot::Cell(0)).is_none());
+    words.slot_put(Slot::Mail(1), chain(9));
+    assert!(rt; matches!(words.slot_take(Slot::Mail(1)), Some(Chain { cell: 9, .. })));
+    Ok(())
+}
+
+#[test]
+#[tactic(auto, unfolding(crate::specs::Encodings::out_bytes))]
+fn a_byte_is_printed(rt: HostRuntime) -> Result<(), Fail> {
+    let mut words = opened(rt.alloc())?;
+    words.out_store(1_048_575, 256 + 65);
+    assert_eq!(rt; words.out_load(1_048_575), 321);
+    Ok(())
+}
