@@ -1,0 +1,10 @@
+pub mod WordParts
+pub mod Fetching
+pub mod Writes
+pub mod Straight
+pub mod LiRuns
+pub mod SavedList
+pub mod Prologues
+pub mod Restoring
+pub mod Freeing
+pub mod Epilogues

@@ -1,0 +1,149 @@
+-- What stretches of laid out code do on the machine with its stack words: a prologue, an epilogue as written, an augmented epilogue, a pure
+-- copy, and `li`. Read ran (so many instructions, from the pc on), HasCode (the code at an address), and the laws: RunsPrologue,
+-- RunsEpilogue, RunsPureCopy, RunsAugmented, RunsLi. A frame has its base b at the value of sp before its prologue: the return address stands
+-- at b - 8, the caller's s0 at b - 16, the k-th saved register at b - 24 - 8k.
+use Rattle.std.specs.Prelude.{◌≡◌, ◌⊎◌, ℕ, zero, suc, ◌+◌, ◌*◌, ◌-◌, ◌%◌, ◌^◌, ◌<◌, ◌≤◌, ℤ, ◌==◌, List, [], ◌∷◌, length, Option, Some, None, option_and_then, if◌then◌else◌}
+use Rattle.st_base.specs.declared.reg.Reg.{Reg}
+use Rattle.st_base.specs.declared.reg.Reg.TheVariants as registers
+use Rattle.st_rv.specs.declared.ins.Ins.{Ins}
+use Rattle.st_rv.specs.Results.{word_of}
+use Rattle.st_model.specs.Memory.{Data}
+use Rattle.st_model.specs.declared.program.ProgramFunction.{ProgramFunction}
+use Rattle.st_model.specs.declared.code.PostedIns.{PostedIns}
+use Rattle.st_model.specs.declared.code.PostedIns.TheVariants as posted
+use Rattle.st_model.specs.Accepted.{HasFrame}
+use Rattle.st_model.specs.Layout.{saved_of, prologue_ins, epilogue_ins, augmented_ins, pure_copy_ins, li_ins, branch_ins, distance, IsWordValue}
+use Rattle.st_words.specs.Steps.{place_of}
+use Rattle.st_step.specs.declared.state.State.{State}
+use Rattle.st_step.specs.Moves.{Move, Goes, Reads, Writes, Marks, Stops, Outside, move_of, register, written, at_place}
+
+-- ---- runs
+
+-- the machine, and the words of the stacks by their places
+pub record Situation : Type 0 where
+  pub state : State
+  pub word : ℕ → ℕ
+
+-- 32 registers, of which zero is 0
+pub record HasRegisters (m : State) : Type 0 where
+  pub count : length m.registers ≡ 32
+  pub origin : register m registers.Zero ≡ 0
+
+-- so that a load gives all of a word
+abbrev pub AreWords : (ℕ → ℕ) → Type 0
+AreWords word = (q : ℕ) → word q < 2 ^ 64
+
+abbrev pub stored : ℕ → ℕ → (ℕ → ℕ) → ℕ → ℕ
+stored p n word q = if q == p then n else word q
+
+-- after a move; none where it stops
+abbrev pub moved : Situation → Move → Option Situation
+moved s (Goes m) = Some (record { state = m; word = s.word })
+moved s (Reads p go) = Some (record { state = go (s.word p); word = s.word })
+moved s (Writes p n m) = Some (record { state = m; word = stored p n s.word })
+moved s (Marks p m) = Some (record { state = m; word = stored p 0 s.word })
+moved s (Stops end) = None
+moved s Outside = None
+
+abbrev pub moved_by : Data → Situation → Option Ins → Option Situation
+moved_by d s None = None
+moved_by d s (Some i) = moved s (move_of d s.state i)
+
+-- so many instructions, each the one at the pc
+unfoldable pub ran : Data → (ℕ → Option Ins) → ℕ → Situation → Option Situation
+ran d code zero s = Some s
+ran d code (suc n) s = option_and_then (ran d code n) (moved_by d s (code s.state.pc))
+
+-- the instruction of a word that names no function and no entry, the word `at` of its function
+abbrev pub local_ins : ℕ → PostedIns → Option Ins
+local_ins at (posted.Plain i) = Some i
+local_ins at (posted.Branch op rs1 rs2 to) = Some (branch_ins op rs1 rs2 (distance at to))
+local_ins at _ = None
+
+-- these instructions stand at an address, which is that of the word `at` of their function
+abbrev pub HasCode : (ℕ → Option Ins) → ℕ → ℕ → List PostedIns → Type 0
+HasCode code pc at [] = Prim.Unit
+HasCode code pc at (i ∷ is) = ((x : Ins) × (local_ins at i ≡ Some x) × (code pc ≡ Some x)) × HasCode code (pc + 4) (at + 1) is
+
+-- ---- frames in memory
+
+-- a base that a frame of so many bytes may have on a stack that begins at lo
+pub record IsBase (lo bytes b : ℕ) : Type 0 where
+  pub multiple : b % 16 ≡ 0
+  pub stack : 0x8000_0000 ≤ lo
+  pub room : lo + bytes ≤ b
+  pub high : b < 0x8000_0000 + 2 ^ 32
+
+-- a stretch of so many instructions from an address lies below 2 ^ 32
+pub record IsStretch (pc count : ℕ) : Type 0 where
+  pub below : pc + 4 * count < 2 ^ 32
+
+-- a return address
+pub record IsReturn (n : ℕ) : Type 0 where
+  pub multiple : n % 4 ≡ 0
+  pub below : n < 2 ^ 32
+
+abbrev pub return_word : ℕ → ℕ
+return_word b = place_of (b - 8)
+
+abbrev pub caller_word : ℕ → ℕ
+caller_word b = place_of (b - 16)
+
+abbrev pub saved_word : ℕ → ℕ → ℕ
+saved_word b k = place_of (b - (24 + 8 * k))
+
+-- the registers are stored as the k-th saved ones and on
+abbrev pub with_saved : State → ℕ → ℕ → List Reg → (ℕ → ℕ) → ℕ → ℕ
+with_saved m b k [] word = word
+with_saved m b k (r ∷ rs) word = with_saved m b (k + 1) rs (stored (saved_word b k) (register m r) word)
+
+-- the words that a prologue makes
+abbrev pub with_frame : State → ℕ → List Reg → (ℕ → ℕ) → ℕ → ℕ
+with_frame m b saved word = with_saved m b 0 saved (stored (caller_word b) (register m registers.S0) (stored (return_word b) (register m registers.Ra) word))
+
+-- the registers are loaded from there
+abbrev pub restored : (ℕ → ℕ) → ℕ → ℕ → List Reg → State → State
+restored word b k [] m = m
+restored word b k (r ∷ rs) m = restored word b (k + 1) rs (written m r (word (saved_word b k)))
+
+-- the caller's registers: ra, the saved ones and s0, from the frame with base b
+abbrev pub with_caller : (ℕ → ℕ) → ℕ → List Reg → State → State
+with_caller word b saved m = written (restored word b 0 saved (written m registers.Ra (word (return_word b)))) registers.S0 (word (caller_word b))
+
+-- ---- the laws
+
+-- a prologue makes a frame at sp and leaves s0 at its base
+abbrev pub RunsPrologue : Type 0
+RunsPrologue = (d : Data) (code : ℕ → Option Ins) (function : ProgramFunction) (s : Situation) (at : ℕ) → HasFrame function → HasCode code s.state.pc at (prologue_ins function.frame_bytes (saved_of function)) → IsBase s.state.lo function.frame_bytes (register s.state registers.Sp) → IsStretch s.state.pc (4 + length (saved_of function)) → ran d code (4 + length (saved_of function)) s ≡ Some (record {
+  state = at_place (s.state.pc + 4 * (4 + length (saved_of function))) (written (written s.state registers.Sp (register s.state registers.Sp - function.frame_bytes)) registers.S0 (register s.state registers.Sp));
+  word = with_frame s.state (register s.state registers.Sp) (saved_of function) s.word;
+})
+
+-- an epilogue as written gives the caller's registers, frees the frame, whose base is b, and returns
+abbrev pub RunsEpilogue : Type 0
+RunsEpilogue = (d : Data) (code : ℕ → Option Ins) (function : ProgramFunction) (s : Situation) (at b : ℕ) → AreWords s.word → HasFrame function → HasCode code s.state.pc at (epilogue_ins function.frame_bytes (saved_of function)) → IsBase s.state.lo function.frame_bytes b → register s.state registers.Sp ≡ b - function.frame_bytes → IsReturn (s.word (return_word b)) → IsStretch s.state.pc (4 + length (saved_of function)) → ran d code (4 + length (saved_of function)) s ≡ Some (record {
+  state = at_place (s.word (return_word b)) (written (with_caller s.word b (saved_of function) s.state) registers.Sp b);
+  word = s.word;
+})
+
+-- a pure copy gives the caller's registers from the frame whose base is s0, leaves sp, changes no word, and returns; tp has the base
+abbrev pub RunsPureCopy : Type 0
+RunsPureCopy = (d : Data) (code : ℕ → Option Ins) (function : ProgramFunction) (s : Situation) (at : ℕ) → AreWords s.word → HasFrame function → HasCode code s.state.pc at (pure_copy_ins (saved_of function)) → IsBase s.state.lo function.frame_bytes (register s.state registers.S0) → IsReturn (s.word (return_word (register s.state registers.S0))) → IsStretch s.state.pc (4 + length (saved_of function)) → ran d code (4 + length (saved_of function)) s ≡ Some (record {
+  state = at_place (s.word (return_word (register s.state registers.S0))) (with_caller s.word (register s.state registers.S0) (saved_of function) (written s.state registers.Tp (register s.state registers.S0)));
+  word = s.word;
+})
+
+-- an augmented epilogue gives the same registers. Exactly where sp is below the base and the base is at most gp, it sets sp to the base and
+-- changes no word; else it stores 0 to the return word, changes no other word, and leaves sp
+abbrev pub RunsAugmented : Type 0
+RunsAugmented = (d : Data) (code : ℕ → Option Ins) (function : ProgramFunction) (s : Situation) (at : ℕ) → AreWords s.word → HasFrame function → HasCode code s.state.pc at (augmented_ins at (saved_of function)) → IsBase s.state.lo function.frame_bytes (register s.state registers.S0) → IsReturn (s.word (return_word (register s.state registers.S0))) → IsStretch s.state.pc (9 + length (saved_of function)) → (register s.state registers.Sp < register s.state registers.S0 → register s.state registers.S0 ≤ register s.state registers.Gp → ran d code (7 + length (saved_of function)) s ≡ Some (record {
+  state = at_place (s.word (return_word (register s.state registers.S0))) (written (with_caller s.word (register s.state registers.S0) (saved_of function) (written s.state registers.Tp (register s.state registers.S0))) registers.Sp (register s.state registers.S0));
+  word = s.word;
+})) × ((register s.state registers.S0 ≤ register s.state registers.Sp) ⊎ (register s.state registers.Gp < register s.state registers.S0) → (count : ℕ) × (ran d code count s ≡ Some (record {
+  state = at_place (s.word (return_word (register s.state registers.S0))) (with_caller s.word (register s.state registers.S0) (saved_of function) (written s.state registers.Tp (register s.state registers.S0)));
+  word = stored (return_word (register s.state registers.S0)) 0 s.word;
+})))
+
+-- the words of `li` give its value
+abbrev pub RunsLi : Type 0
+RunsLi = (d : Data) (code : ℕ → Option Ins) (s : Situation) (at : ℕ) (rd : Reg) (value : ℤ) → HasRegisters s.state → IsWordValue value → HasCode code s.state.pc at (li_ins rd value) → IsStretch s.state.pc (length (li_ins rd value)) → ran d code (length (li_ins rd value)) s ≡ Some (record { state = at_place (s.state.pc + 4 * length (li_ins rd value)) (written s.state rd (word_of value)); word = s.word })

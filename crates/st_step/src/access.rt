@@ -1,0 +1,68 @@
+//! Addresses of loads and stores: which are to the stacks, in which word, and whether they are aligned.
+ghost use Rattle.std.specs.Prelude.{◌≡◌, ◌==◌, ◌+◌, ◌%◌, ◌^◌, ◌<◌, ◌≤◌};
+ghost use Rattle.st_rv.specs.Results.{access_size};
+ghost use Rattle.st_step.specs.Moves.{register, address_of, is_stack, in_one_word};
+ghost use Rattle.st_words.specs.Steps.{place_of};
+
+use crate::state::State;
+use st_base::reg::Reg;
+use st_rv::ins::{Ins, Op};
+use st_rv::results::word_of;
+
+/// Where the stacks begin.
+const STACKS_BASE: u64 = 0x8000_0000;
+/// The bytes of all stacks.
+const STACKS_BYTES: u64 = 0x1_0000_0000;
+
+impl State {
+    /// What a register holds.
+    pub(crate) fn read(&self, r: Reg) -> u64
+        ensures { result ≡ register self.now r }
+    {
+        self.registers[r.number()]
+    }
+
+    /// The address that a load, a store or a jump through a register speaks of.
+    pub(crate) fn address_of(&self, i: Ins) -> u64
+        ensures { result ≡ address_of self.now i }
+    {
+        self.read(i.rs1).wrapping_add(word_of(i.imm))
+    }
+}
+
+/// Whether accesses through a register are to the stack.
+pub(crate) fn is_stack(r: Reg) -> bool
+    ensures { result ≡ is_stack r }
+{
+    matches!(r, Reg::S0 | Reg::Sp | Reg::Tp)
+}
+
+/// Whether an access of so many bytes lies in one word of the stacks.
+pub(crate) fn in_one_word(address: u64, size: usize) -> bool
+    requires { size ≤ 8 }
+    ensures { result ≡ in_one_word address size }
+{
+    address >= STACKS_BASE && address < STACKS_BASE + STACKS_BYTES && address % 8 + size as u64 <= 8
+}
+
+/// The place of the stack word of an address.
+pub(crate) fn place_of(address: u64) -> u32
+    requires from { 0x8000_0000 ≤ address }
+    requires to { address < 0x8000_0000 + 2 ^ 32 }
+    ensures { result ≡ place_of address }
+{
+    ((address - STACKS_BASE) / 8) as u32
+}
+
+/// Whether the address of an access is a multiple of its size.
+#[tactic(auto, unfolding(st_rv::specs::Results::access_size))]
+pub(crate) fn is_aligned(op: Op, address: u64) -> bool
+    ensures { result ≡ (address % access_size op == 0) }
+{
+    match op {
+        Op::Lb | Op::Lbu | Op::Sb => true,
+        Op::Lh | Op::Lhu | Op::Sh => address % 2 == 0,
+        Op::Lw | Op::Lwu | Op::Sw => address % 4 == 0,
+        _ => address % 8 == 0,
+    }
+}

@@ -1,0 +1,104 @@
+//! Carries out what an instruction does, on the machine in place and on the board.
+ghost use Rattle.std.specs.Prelude.{◌≡◌, ◌≢◌, ◌+◌, ℕ};
+ghost use Rattle.st_step.specs.Moves.{written, at_place, goes_on, results, MayMove, Moves};
+ghost use Rattle.st_step.specs.Acts.{move_by};
+ghost use Rattle.st_words.specs.Steps.{Asks};
+
+use crate::act::Act;
+use crate::bytes::bytes_of;
+use crate::machine::StepEnd;
+use crate::state::State;
+use st_base::reg::Reg;
+use st_rv::results::{access_size, extended};
+use st_words::board::{Board, Next};
+
+impl State {
+    /// Writes a register; a write to `zero` changes nothing.
+    pub(crate) fn write(&mut self, r: Reg, v: u64)
+        ensures { self.new ≡ written self.old r v }
+    {
+        let at = r.number();
+        if at != 0 {
+            self.registers[at] = v;
+        }
+    }
+
+    /// Goes on at another address. A store that is half done is forgotten.
+    pub(crate) fn go(&mut self, pc: u32)
+        ensures { self.new ≡ at_place pc self.old }
+    {
+        self.pc = pc;
+        self.half = None;
+    }
+
+    /// Goes on at the next instruction.
+    fn go_on(&mut self)
+        ensures { self.new ≡ goes_on self.old }
+    {
+        self.go(self.pc.wrapping_add(4));
+    }
+
+    /// Goes on with a result in a register.
+    pub(crate) fn put(&mut self, r: Reg, v: u64)
+        ensures { self.new ≡ results self.old r v }
+    {
+        self.write(r, v);
+        self.go_on();
+    }
+
+    /// Goes on at another address, with the address behind the jump in a register.
+    pub(crate) fn link(&mut self, r: Reg, pc: u32)
+        ensures { self.new ≡ at_place pc (written self.old r (self.old.pc + 4)) }
+    {
+        let back = u64::from(self.pc) + 4;
+        self.write(r, back);
+        self.go(pc);
+    }
+
+    /// Carries out an act, with at most one step of the board.
+    pub(crate) fn carry_out<B: Board, N: Next>(
+        &mut self,
+        act: Act,
+        board: &mut B,
+        w: u32,
+    ) -> StepEnd
+        requires serves { B.serves board.old w }
+        requires may { MayMove (λ s. Asks (B.says board.old w) (B.forward board.old) (B.moves board.old) N.after (B.view board.old w) s) (move_by self.old act) }
+        ensures moved { Moves (B.says board.old w) (B.did board.old w) (N.after (B.view board.old w)) (λ b. B.view b w) board.old self.old (move_by self.old act) result self.new board.new }
+        ensures serves { B.serves board.new w }
+        ensures others { (other : ℕ) → other ≢ w → B.serves board.old other → B.serves board.new other × (B.view board.new other ≡ B.view board.old other) }
+    {
+        match act {
+            Act::Result { rd, value } => self.put(rd, value),
+            Act::Go { pc } => self.go(pc),
+            Act::Link { rd, pc } => self.link(rd, pc),
+            Act::Load {
+                op,
+                rd,
+                place,
+                address,
+            } => {
+                let word = board.stack_load::<N>(w, place);
+                self.put(
+                    rd,
+                    extended(op, bytes_of(word, address % 8, access_size(op))),
+                );
+            }
+            Act::Fetch { place } => {
+                let word = board.stack_load::<N>(w, place);
+                self.half = Some(word);
+            }
+            Act::Store { place, value } => {
+                board.stack_store::<N>(w, place, value);
+                self.go_on();
+            }
+            Act::Mark { place } => {
+                board.mark::<N>(w, place);
+                self.go_on();
+            }
+            Act::Stop(end) => return end,
+            Act::Outside => unreachable!(),
+        }
+        StepEnd::Ran
+    }
+}

@@ -1,0 +1,61 @@
+//! One step of the machine: the instruction at the pc is taken from the image, chosen by what it does, and carried out.
+ghost use Rattle.std.specs.Prelude.{◌≡◌, ◌≢◌, ℕ, IfSome, Some};
+ghost use Rattle.st_rv.specs.declared.ins.Ins.{Ins};
+ghost use Rattle.st_model.specs.Memory.{data_of};
+ghost use Rattle.st_step.specs.Moves.{is_entry, Fetches, MayStep, Stepped};
+ghost use Rattle.st_step.specs.Acts.{IsBounded};
+ghost use Rattle.st_words.specs.Steps.{Asks};
+
+use crate::choose::act_of;
+use crate::machine::{Machine, StepEnd};
+use st_base::image::Image;
+use st_rv::code::decode;
+use st_rv::ins::Ins;
+use st_words::board::{Board, Next};
+
+/// Where the code begins.
+const CODE_BASE: u32 = 0x1_0000;
+
+/// Whether an address is that of an entry of the runtime: 0x10 to 0x90.
+pub(crate) fn is_entry(pc: u32) -> bool
+    ensures { result ≡ is_entry pc }
+{
+    pc % 16 == 0 && 0x10 <= pc && pc <= 0x90
+}
+
+/// The instruction of an image's word at an address.
+fn fetched(image: &Image, pc: u32) -> Option<Ins>
+    ensures some { IfSome result (λ i. IsBounded i) }
+    ensures only { (i : Ins) → Fetches image.now pc i → result ≡ Some i }
+{
+    let offset = pc.checked_sub(CODE_BASE)?;
+    let word = image.words.as_slice().get((offset / 4) as usize)?;
+    decode(*word)
+}
+
+impl Machine {
+    /// One instruction of the image's code, or half of a store of less than eight bytes; it takes no memory.
+    pub fn step<B: Board, N: Next>(
+        &mut self,
+        image: &Image,
+        input: &[u8],
+        board: &mut B,
+        w: u32,
+    ) -> StepEnd
+        requires serves { B.serves board.old w }
+        requires may { MayStep (λ s. Asks (B.says board.old w) (B.forward board.old) (B.moves board.old) N.after (B.view board.old w) s) image.now (data_of image.now.rodata input.now) self.old.state }
+        ensures step { Stepped (B.says board.old w) (B.did board.old w) (N.after (B.view board.old w)) (λ b. B.view b w) board.old self.old.state image.now (data_of image.now.rodata input.now) result self.new.state board.new }
+        ensures serves { B.serves board.new w }
+        ensures others { (other : ℕ) → other ≢ w → B.serves board.old other → B.serves board.new other × (B.view board.new other ≡ B.view board.old other) }
+    {
+        let pc = self.state.pc;
+        if is_entry(pc) {
+            return StepEnd::Entry(pc);
+        }
+        let Some(i) = fetched(image, pc) else {
+            unreachable!()
+        };
+        let act = act_of(&self.state, i, image.rodata.as_slice(), input);
+        self.state.carry_out::<B, N>(act, board, w)
+    }
+}
