@@ -1,31 +1,43 @@
--- The answers of the program. outcome-runs, outcome-departs, outcome-refused, outcome-read: the outcome of a text; start-same: a long start
--- of a file has the file's outcome; answers-start: so the answer on what was read is the answer on the file; answers-not_usage: a file's
--- answer is never Usage.
-use Rattle.std.proofs.Common.{◌≡◌, ℕ, ◌<◌, ◌≤◌, ◌+◌, ◌^◌, List, [], ◌∷◌, length, map, Option, Some, None, refl, sym, ap, ◌∙◌, subst, arith, ◌⊎◌, inl, inr}
-use Rattle.std.specs.Prelude.{IfSome, option_map, Result, Ok, Err, if◌then◌else◌, nat_lt}
-use Rattle.std.proofs.lemmas.Bool.{lt-ltb}
+-- The answers of the program. outcome-runs, outcome-departs, outcome-one, refused-one: the outcome of the text of a run; form-names:
+-- the files that a fault of form is told in. run-answers, check-answers: an answer on what was read is one on the files, since what was
+-- read has the outcome of their texts (answers-texts is that of any command); answers-unread: that where files weren't read. usage-asks_none,
+-- none-is_usage: when the answer is Usage; asks-job, run-asks_none, option-asks_none, other-asks_none: which jobs words ask for.
+use Rattle.std.proofs.Common.{◌≡◌, ℕ, ◌≤◌, ◌^◌, Bool, true, List, [], ◌∷◌, length, Option, Some, None, refl, sym, ap, ◌∙◌, subst, arith, ◌⊎◌, inl, inr}
+use Rattle.std.specs.Prelude.{false, codes, IfOk, IfSome, option_map, Result, Ok, Err}
+use Rattle.std.specs.Str.{bytes_eq}
+use Rattle.std.proofs.lemmas.Slice.Eq.{bytes_eq-Decides}
+use Rattle.std.specs.Coded.{le_prop}
+use Rattle.std.proofs.Math.Logic.{∥∥₁_elim}
+use Rattle.st_asm.specs.declared.unit.Function.{Function}
+use Rattle.std.specs.declared.alloc.AllocError.{AllocError}
 use Rattle.st_base.specs.declared.line.Line.{Line}
 use Rattle.st_line.specs.declared.fault.AsmFault.{AsmFault}
-use Rattle.st_line.specs.declared.fault.AsmKind.TheVariants.{TooLarge}
-use Rattle.st_asm.specs.Labels.{located}
-use Rattle.st_asm.specs.Assembly.{Parts, unit_of, unit_when, too_long}
+use Rattle.st_asm.specs.Assembly.{Parts, unit_of}
 use Rattle.st_model.specs.declared.ordinary.OrdEnd.{OrdEnd}
 use Rattle.st_model.specs.declared.ordinary.OrdEnd.TheVariants as ends
 use Rattle.st_model.specs.declared.program.Program.{Program}
 use Rattle.st_model.specs.Memory.{data_of}
 use Rattle.st_model.specs.Ordinary.{ordinary_run}
-use Rattle.st_jobs.specs.Commands.{job_of, Asked, setting, workers_id}
+use Rattle.st_check.specs.declared.fault.FormFault.{FormFault}
+use Rattle.st_check.specs.declared.error.FormError.TheVariants.{Fault}
+use Rattle.st_check.specs.Acceptance.{IsFaultLine, IsErrorLine}
+use Rattle.st_jobs.specs.Commands.{Asked, setting, workers_id, job_of}
 use Rattle.st_jobs.specs.Jobs.{asked_of, limit_settings, file_texts}
 use Rattle.st_jobs.specs.declared.job.Job.{Job}
-use Rattle.st_jobs.specs.declared.job.Job.TheVariants.{Run}
+use Rattle.st_jobs.specs.declared.job.Job.TheVariants.{Run, Plain, Sim, Check, Post, Gen}
 use Rattle.st_jobs.specs.declared.job.RunArgs.{RunArgs}
-use Rattle.st_print.specs.Telling.{NamesFiles}
+use Rattle.st_jobs.specs.declared.job.Names.{Names}
 use Rattle.st_main.specs.declared.exit.Exit.{Exit}
 use Rattle.st_main.specs.declared.exit.Exit.TheVariants.{Usage, OutOfMemory}
 use Rattle.st_main.specs.declared.outcome.Outcome.{Outcome}
 use Rattle.st_main.specs.Form.{departing_line, program_of}
-use Rattle.st_main.specs.Reading.{IsStart}
-use Rattle.st_main.specs.Answer.{Seen, departure, outcome_of_end, refusal, outcome_by_form, outcome_by_unit, outcome_of, AsksFor, AsksForNone, standard_limits, standard_run, AnswersText, AnswersFile, IsAnswer, RefusesWords, RunsOut, HasOneName, NamesItsFile}
+use Rattle.st_main.specs.Naming.{NamesAmong}
+use Rattle.st_main.specs.Reading.{past_limit, IsReadOf, HasRead}
+use Rattle.st_main.specs.Answer.{Built, Runs, Checks, Posts, asked_by, Seen, departure, outcome_of_end, refusal, outcome_by_form, outcome_by_unit, outcome_of, IsRunOutcome, form_refusal, IsUnitOutcome, IsCheckBy, IsCheckOutcome, IsLinkOutcome, IsPostOf, IsPostBy, IsPostOutcome, names_workers_alone, AsksFor, AsksForNone, standard_limits, standard_run, ComesAbout, FailsToRead, AnswersFiles, AnswersJob, IsAnswer, RunsOut}
+use Rattle.st_main.proofs.ReadTexts.{read-same}
+use Rattle.st_main.proofs.UnitLines.{unit_line-file}
+
+-- ---- the outcome of a run
 
 pub outcome-runs : (text : List ℕ) (p : Program) (end : OrdEnd) (o : Outcome) → (departing_line text ≡ None) × (p ≡ program_of text) → Some end ≡ ordinary_run p (data_of [] []) (2 ^ 32) → o ≡ outcome_of_end end → outcome_by_form text (departing_line text) ≡ Some o
 outcome-runs text p end o form run is =
@@ -47,28 +59,75 @@ pub outcome-read : (text : List ℕ) (parts : Parts) (o : Outcome) → unit_of (
 unfolding outcome_of
 outcome-read text parts o reads is = ap (outcome_by_unit text) reads ∙ is
 
--- ---- long texts
+-- the one text of a run, where it reads
+pub outcome-one : (texts : List (List ℕ)) (text : List ℕ) (parts : Parts) (o : Outcome) → unit_of texts ≡ Ok parts → texts ≡ text ∷ [] → outcome_by_form text (departing_line text) ≡ Some o → IsRunOutcome texts o
+outcome-one texts text parts o reads one form = (text, one, outcome-read text parts o (ap unit_of (sym one) ∙ reads) form)
 
-long-refused : (text : List ℕ) → 1048576 < length text → unit_of (text ∷ []) ≡ Err (record { line = record { file = 1; line = 1 }; kind = TooLarge })
-unfolding unit_of
-long-refused text long =
-    let longer : 1048576 < 0 + length text = omega (arith, long) in
-    ap (λ b. unit_when (if b then Some 1 else None) (located 1 (text ∷ []))) (lt-ltb 1048576 (0 + length text) longer)
+-- and where it doesn't
+pub refused-one : (texts : List (List ℕ)) (fault : AsmFault) (o : Outcome) → unit_of texts ≡ Err fault → length texts ≡ 1 → o ≡ refusal fault → IsRunOutcome texts o
+refused-one [] fault o reads one is = absurd (omega (arith, one))
+refused-one (text ∷ []) fault o reads one is = (text, refl, outcome-refused text fault o reads is)
+refused-one (text ∷ other ∷ more) fault o reads one is = absurd (omega (arith, one))
 
-pub start-same : (file text : List ℕ) → IsStart file text → outcome_of text ≡ outcome_of file
+-- what comes of a text that doesn't read is its refusal
+outcome-is_refusal : (text : List ℕ) (fault : AsmFault) (o : Outcome) → unit_of (text ∷ []) ≡ Err fault → outcome_of text ≡ Some o → o ≡ refusal fault
 unfolding outcome_of
-start-same file text (inl e) = ap (λ t. outcome_by_unit t (unit_of (t ∷ []))) e
-start-same file text (inr f) =
-    let within = f.0.within in
-    let long = f.1 in
-    let longer : 1048576 < length file = omega (arith, within, long) in
-    ap (outcome_by_unit text) (long-refused text long) ∙ sym (ap (outcome_by_unit file) (long-refused file longer))
+outcome-is_refusal text fault o reads is =
+    let same : ◌≡◌ {A = Option Outcome} (Some (refusal fault)) (Some o) = sym (ap (outcome_by_unit text) reads) ∙ is in
+    let back : refusal fault ≡ o = cc in
+    sym back
 
-pub answers-start : (name file text : List ℕ) (seen : Seen) (exit : Exit) → IsStart file text → AnswersText name text seen exit → AnswersText name file seen exit
-answers-start name file text seen exit start (inl out) = inl out
-answers-start name file text seen exit start (inr a) = inr (a.0, sym (start-same file text start) ∙ a.1, a.2)
+pub run-carries : (texts read : List (List ℕ)) (o : Outcome) → IsReadOf texts read → IsRunOutcome read o → IsRunOutcome texts o
+run-carries texts read o (inl e) r = subst (λ ts. IsRunOutcome ts o) e r
+run-carries texts read o (inr (long, fails, refused)) r =
+    let one : length read ≡ 1 = ap length r.1 in
+    refused-one texts (past_limit (length texts)) o refused (sym long ∙ one) (outcome-is_refusal r.0 (past_limit (length texts)) o (ap unit_of (sym r.1) ∙ fails) r.2)
 
--- ---- no file's answer is Usage
+-- ---- the outcome of a check
+
+pub check-carries : (texts read : List (List ℕ)) (o : Outcome) → IsReadOf texts read → IsCheckOutcome read o → IsCheckOutcome texts o
+check-carries texts read o same is = subst (λ r. IsCheckBy r o) (read-same texts read same) is
+
+pub post-carries : (texts read : List (List ℕ)) (o : Outcome) → IsReadOf texts read → IsPostOutcome read o → IsPostOutcome texts o
+post-carries texts read o same is = subst (λ r. IsPostBy r o) (read-same texts read same) is
+
+-- ---- the files that a fault is told in
+
+fault-file : (texts : List (List ℕ)) (parts : Parts) (line : Line) → 1 ≤ length texts → unit_of texts ≡ Ok parts → IsFaultLine parts.functions line → (1 ≤ line.file) × (line.file ≤ length texts)
+fault-file texts parts line some reads (inl first) = let one : line.file ≡ 1 = ap (λ (l : Line). l.file) first in (omega arith, omega arith)
+fault-file texts parts line some reads (inr is) = unit_line-file texts parts line reads is
+
+pub form-names : (texts : List (List ℕ)) (parts : Parts) (fault : FormFault) (o : Outcome) → ∥ IsErrorLine parts.functions (Fault fault) ∥₁ → 1 ≤ length texts → unit_of texts ≡ Ok parts → o ≡ form_refusal fault → NamesAmong (length texts) o
+form-names texts parts fault o lines some reads is =
+    let first : 1 ≤ fault.line.file = ∥∥₁_elim lines le_prop (λ l. (fault-file texts parts fault.line some reads l).0) in
+    let last : fault.line.file ≤ length texts = ∥∥₁_elim lines le_prop (λ l. (fault-file texts parts fault.line some reads l).1) in
+    subst (NamesAmong (length texts)) (sym is) (λ names enough. (first, omega arith))
+
+-- ---- the answer on files
+
+-- the answer on texts that come to this, or for which memory was wanting
+abbrev pub AnswersTexts : List (List ℕ) → Result Outcome AllocError → Seen → Exit → Type 0
+AnswersTexts names r seen exit = RunsOut seen exit ⊎ ((o : Outcome) × (r ≡ Ok o) × ComesAbout names o seen exit)
+
+pub answers-texts : (outcomes : List (List ℕ) → Outcome → Type 0) (contents : Option (List ℕ → Option (List ℕ))) (names read : List (List ℕ)) (r : Result Outcome AllocError) (seen : Seen) (exit : Exit) → ((texts : List (List ℕ)) (o : Outcome) → IsReadOf texts read → outcomes read o → outcomes texts o) → HasRead contents names read → IfOk r (outcomes read) → AnswersTexts names r seen exit → AnswersFiles outcomes contents names seen exit
+answers-texts outcomes contents names read r seen exit carries h is (inl out) = inl out
+answers-texts outcomes contents names read r seen exit carries h is (inr (o, made, about)) =
+    inr (inr (h.texts, h.are, (o, carries h.texts o h.same (subst (λ x. IfOk x (outcomes read)) made is), about)))
+
+pub run-answers : (contents : Option (List ℕ → Option (List ℕ))) (names read : List (List ℕ)) (r : Result Outcome AllocError) (seen : Seen) (exit : Exit) → HasRead contents names read → IfOk r (IsRunOutcome read) → AnswersTexts names r seen exit → AnswersFiles IsRunOutcome contents names seen exit
+run-answers contents names read r seen exit h is answers = answers-texts IsRunOutcome contents names read r seen exit (λ texts o. run-carries texts read o) h is answers
+
+pub check-answers : (contents : Option (List ℕ → Option (List ℕ))) (names read : List (List ℕ)) (r : Result Outcome AllocError) (seen : Seen) (exit : Exit) → HasRead contents names read → IfOk r (IsCheckOutcome read) → AnswersTexts names r seen exit → AnswersFiles IsCheckOutcome contents names seen exit
+check-answers contents names read r seen exit h is answers = answers-texts IsCheckOutcome contents names read r seen exit (λ texts o. check-carries texts read o) h is answers
+
+pub post-answers : (contents : Option (List ℕ → Option (List ℕ))) (names read : List (List ℕ)) (r : Result Outcome AllocError) (seen : Seen) (exit : Exit) → HasRead contents names read → IfOk r (IsPostOutcome read) → AnswersTexts names r seen exit → AnswersFiles IsPostOutcome contents names seen exit
+post-answers contents names read r seen exit h is answers = answers-texts IsPostOutcome contents names read r seen exit (λ texts o. post-carries texts read o) h is answers
+
+pub answers-unread : (outcomes : List (List ℕ) → Outcome → Type 0) (contents : Option (List ℕ → Option (List ℕ))) (names : List (List ℕ)) (seen : Seen) (exit : Exit) → RunsOut seen exit ⊎ FailsToRead names seen exit → AnswersFiles outcomes contents names seen exit
+answers-unread outcomes contents names seen exit (inl out) = inl out
+answers-unread outcomes contents names seen exit (inr fails) = inr (inl fails)
+
+-- ---- no answer on files is Usage
 
 NotUsage : Outcome → Type 0
 NotUsage o = o.exit ≡ Usage → ⊥
@@ -99,55 +158,117 @@ runs-not_usage : (text : List ℕ) (o : Outcome) → outcome_of text ≡ Some o 
 unfolding outcome_of NotUsage
 runs-not_usage text o h = subst (λ x. IfSome x NotUsage) h (unit-not_usage text (unit_of (text ∷ [])))
 
-text-not_usage : (file text : List ℕ) (seen : Seen) (exit : Exit) → AnswersText file text seen exit → exit ≡ Usage → ⊥
-text-not_usage file text seen exit (inl out) e = let is = out.0 in cc
-text-not_usage file text seen exit (inr (o, runs, inl done)) e = runs-not_usage text o runs (sym done.0 ∙ e)
-text-not_usage file text seen exit (inr (o, runs, inr broke)) e = let is = broke.0 in cc
+run_outcome-not_usage : (texts : List (List ℕ)) (o : Outcome) → IsRunOutcome texts o → o.exit ≡ Usage → ⊥
+run_outcome-not_usage texts o is = runs-not_usage is.0 o is.2
 
-pub answers-not_usage : (contents : Option (List ℕ → Option (List ℕ))) (file : List ℕ) (seen : Seen) (exit : Exit) → AnswersFile contents file seen exit → exit ≡ Usage → ⊥
-answers-not_usage contents file seen exit (inl out) e = let is = out.0 in cc
-answers-not_usage contents file seen exit (inr (inl fails)) e = let is = fails.0 in cc
-answers-not_usage contents file seen exit (inr (inr a)) e = text-not_usage file a.0 seen exit a.2 e
+unit_outcome-not_usage : (parts : Parts) (o : Outcome) → IsUnitOutcome parts o → o.exit ≡ Usage → ⊥
+unit_outcome-not_usage parts o (inl (accepted, is)) e = let same = ap (λ (x : Outcome). x.exit) is in cc
+unit_outcome-not_usage parts o (inr (fault, first, refused, is)) e = let same = ap (λ (x : Outcome). x.exit) is in cc
+
+check_by-not_usage : (r : Result Parts AsmFault) (o : Outcome) → IsCheckBy r o → o.exit ≡ Usage → ⊥
+check_by-not_usage (Err fault) o is e = let same = ap (λ (x : Outcome). x.exit) is in cc
+check_by-not_usage (Ok parts) o is e = unit_outcome-not_usage parts o is e
+
+link_outcome-not_usage : (functions : List Function) (o : Outcome) → IsLinkOutcome functions o → o.exit ≡ Usage → ⊥
+link_outcome-not_usage functions o (inl (line, distance, far, is)) e = let same = ap (λ (x : Outcome). x.exit) is in cc
+link_outcome-not_usage functions o (inr (near, (ws, words, is))) e = let same = ap (λ (x : Outcome). x.exit) is in cc
+
+post_of-not_usage : (parts : Parts) (o : Outcome) → o.exit ≡ Usage → IsPostOf parts o → ⊥
+post_of-not_usage parts o e (inl (accepted, is)) = link_outcome-not_usage parts.functions o is e
+post_of-not_usage parts o e (inr (fault, first, refused, is)) = let same = ap (λ (x : Outcome). x.exit) is in cc
+
+post_by-not_usage : (r : Result Parts AsmFault) (o : Outcome) → IsPostBy r o → o.exit ≡ Usage → ⊥
+post_by-not_usage (Err fault) o is e = let same = ap (λ (x : Outcome). x.exit) is in cc
+post_by-not_usage (Ok parts) o is e = ∥∥₁_elim is (λ x y. absurd x) (post_of-not_usage parts o e)
+
+files-not_usage : (outcomes : List (List ℕ) → Outcome → Type 0) (contents : Option (List ℕ → Option (List ℕ))) (names : List (List ℕ)) (seen : Seen) (exit : Exit) → ((texts : List (List ℕ)) (o : Outcome) → outcomes texts o → o.exit ≡ Usage → ⊥) → AnswersFiles outcomes contents names seen exit → exit ≡ Usage → ⊥
+files-not_usage outcomes contents names seen exit never (inl out) e = let is = out.0 in cc
+files-not_usage outcomes contents names seen exit never (inr (inl fails)) e = let is = fails.0 in cc
+files-not_usage outcomes contents names seen exit never (inr (inr (texts, are, (o, comes, inl done)))) e = never texts o comes (sym done.0 ∙ e)
+files-not_usage outcomes contents names seen exit never (inr (inr (texts, are, (o, comes, inr broke)))) e = let is = broke.0 in cc
+
+job-not_usage : (job : Built) (contents : Option (List ℕ → Option (List ℕ))) (seen : Seen) (exit : Exit) → AnswersJob job contents seen exit → exit ≡ Usage → ⊥
+job-not_usage (Runs file) contents seen exit = files-not_usage IsRunOutcome contents (file ∷ []) seen exit run_outcome-not_usage
+job-not_usage (Checks files) contents seen exit = files-not_usage IsCheckOutcome contents files seen exit (λ texts o. check_by-not_usage (unit_of texts) o)
+job-not_usage (Posts files) contents seen exit = files-not_usage IsPostOutcome contents files seen exit (λ texts o. post_by-not_usage (unit_of texts) o)
 
 -- so Usage comes only where the words ask for nothing that is built, and there nothing else comes but want of memory
 pub usage-asks_none : (words : List (List ℕ)) (contents : Option (List ℕ → Option (List ℕ))) (seen : Seen) (exit : Exit) → IsAnswer words contents seen exit → exit ≡ Usage → AsksForNone words
 usage-asks_none words contents seen exit (inl out) e = let is = out.0 in cc
 usage-asks_none words contents seen exit (inr (inl refuses)) e = refuses.0
-usage-asks_none words contents seen exit (inr (inr (file, asks, answers))) e = absurd (answers-not_usage contents file seen exit answers e)
+usage-asks_none words contents seen exit (inr (inr (job, asks, answers))) e = absurd (job-not_usage job contents seen exit answers e)
 
 pub none-is_usage : (words : List (List ℕ)) (contents : Option (List ℕ → Option (List ℕ))) (seen : Seen) (exit : Exit) → IsAnswer words contents seen exit → AsksForNone words → (exit ≡ Usage) ⊎ (exit ≡ OutOfMemory)
 none-is_usage words contents seen exit (inl out) none = inr out.0
 none-is_usage words contents seen exit (inr (inl refuses)) none = inl refuses.1.0
-none-is_usage words contents seen exit (inr (inr (file, asks, answers))) none = absurd (none file asks)
+none-is_usage words contents seen exit (inr (inr (job, asks, answers))) none = absurd (none job asks)
 
--- ---- one text, one name
-
--- the outcome of the one text, where it reads
-pub outcome-one : (xs : List (List ℕ)) (t text : List ℕ) (parts : Parts) (o : Outcome) → unit_of xs ≡ Ok parts → xs ≡ t ∷ [] → xs ≡ text ∷ [] → outcome_by_form t (departing_line t) ≡ Some o → outcome_of text ≡ Some o
-outcome-one xs t text parts o reads is one form =
-    let same : t ≡ text = cc in
-    outcome-read text parts o (ap unit_of (sym one) ∙ reads) (subst (λ u. outcome_by_form u (departing_line u) ≡ Some o) same form)
-
--- and where it doesn't
-pub refused-one : (xs : List (List ℕ)) (text : List ℕ) (fault : AsmFault) (o : Outcome) → unit_of xs ≡ Err fault → xs ≡ text ∷ [] → o ≡ refusal fault → outcome_of text ≡ Some o
-refused-one xs text fault o reads one is = outcome-refused text fault o (ap unit_of (sym one) ∙ reads) is
-
--- a fault of the one file names it
-pub refusal-names : (fault : AsmFault) (n : ℕ) (o : Outcome) → (1 ≤ fault.line.file) × (fault.line.file ≤ n) → n ≡ 1 → o ≡ refusal fault → NamesItsFile o
-refusal-names fault n o within one is = subst NamesItsFile (sym is) (λ file. (within.0, subst (λ k. fault.line.file ≤ k) one within.1))
-
--- where there is one name, an outcome's fault names files that have names
-pub names_one : (names : List (List ℕ)) (o : Outcome) → HasOneName names → NamesItsFile o → IfSome o.fault (NamesFiles names)
-names_one names o one its = subst (λ xs. IfSome o.fault (NamesFiles xs)) (sym one.1) (its one.0)
-
--- ---- the run that the words ask for
+-- ---- the job that the words ask for
 
 settings_run : (asked : Asked) (file : List ℕ) → asked.command ≡ (standard_run file).command → asked.settings ≡ (standard_run file).settings → asked.schedule ≡ [] → asked.files ≡ file ∷ [] → asked ≡ standard_run file
 settings_run asked file command settings schedule files = λ i. record { command = command i; settings = settings i; schedule = schedule i; files = files i }
 
 -- a job with one worker, the limits of a run that names none, and one file
-pub run-standard : (job : Job) (a : RunArgs) (texts : List (List ℕ)) → job ≡ Run a → a.workers ≡ 1 → limit_settings a.limits ≡ standard_limits → texts ≡ file_texts a.names → length texts ≡ 1 → (file : List ℕ) × (texts ≡ file ∷ []) × (asked_of job ≡ standard_run file)
-run-standard job a [] is one standard named long = absurd (omega (arith, long))
-run-standard job a (file ∷ []) is one standard named long =
-    (file, refl, subst (λ j. asked_of j ≡ standard_run file) (sym is) (settings_run (asked_of (Run a)) file refl (λ i. setting workers_id (one i) ∷ standard i) refl (sym named)))
-run-standard job a (file ∷ other ∷ more) is one standard named long = absurd (omega (arith, long))
+pub run-standard : (a : RunArgs) (texts : List (List ℕ)) → a.workers ≡ 1 → limit_settings a.limits ≡ standard_limits → texts ≡ file_texts a.names → length texts ≡ 1 → (file : List ℕ) × (texts ≡ file ∷ []) × (asked_of (Run a) ≡ standard_run file)
+run-standard a [] one standard named long = absurd (omega (arith, long))
+run-standard a (file ∷ []) one standard named long =
+    (file, refl, settings_run (asked_of (Run a)) file refl (λ i. setting workers_id (one i) ∷ standard i) refl (sym named))
+run-standard a (file ∷ other ∷ more) one standard named long = absurd (omega (arith, long))
+
+no_test : (b : Bool) → b ≡ false → b ≡ true → ⊥
+no_test b off on = cc
+
+apart : (a b : List ℕ) → bytes_eq a b ≡ false → a ≡ b → ⊥
+apart a b differ e = let same = (bytes_eq-Decides a b).1 e in cc
+
+-- the job that words ask for
+pub asks-job : (words : List (List ℕ)) (built : Built) → AsksFor words built → job_of words ≡ Some (asked_by built)
+asks-job words (Runs file) asks = asks.0
+asks-job words (Checks files) asks = asks
+asks-job words (Posts files) asks = asks
+
+asked-same : (o : Option Asked) (a b : Asked) → o ≡ Some a → o ≡ Some b → a ≡ b
+asked-same o a b p q = cc
+
+-- words whose job is none that is built
+asks_none : (words : List (List ℕ)) (asked : Asked) → job_of words ≡ Some asked → ((built : Built) → asked ≡ asked_by built → ⊥) → AsksForNone words
+asks_none words asked is none = λ built asks. none built (asked-same (job_of words) asked (asked_by built) is (asks-job words built asks))
+
+-- what a run asks for is no check
+run-no_check : (a : RunArgs) (files : List (List ℕ)) → asked_of (Run a) ≡ asked_by (Checks files) → ⊥
+run-no_check a files e = apart (codes "run") (codes "check") refl (ap (λ (x : Asked). x.command) e)
+
+run-no_post : (a : RunArgs) (files : List (List ℕ)) → asked_of (Run a) ≡ asked_by (Posts files) → ⊥
+run-no_post a files e = apart (codes "run") (codes "post") refl (ap (λ (x : Asked). x.command) e)
+
+run-not_built : (a : RunArgs) → ((file : List ℕ) → asked_of (Run a) ≡ standard_run file → ⊥) → (built : Built) → asked_of (Run a) ≡ asked_by built → ⊥
+run-not_built a none (Runs file) e = none file e
+run-not_built a none (Checks files) e = run-no_check a files e
+run-not_built a none (Posts files) e = run-no_post a files e
+
+-- another run
+pub run-asks_none : (words : List (List ℕ)) (a : RunArgs) → job_of words ≡ Some (asked_of (Run a)) → ((file : List ℕ) → asked_of (Run a) ≡ standard_run file → ⊥) → AsksForNone words
+run-asks_none words a is none = asks_none words (asked_of (Run a)) is (run-not_built a none)
+
+-- a run that names another option
+pub option-asks_none : (words : List (List ℕ)) (a : RunArgs) → job_of words ≡ Some (asked_of (Run a)) → names_workers_alone words ≡ false → (built : Built) → AsksFor words built → ⊥
+option-asks_none words a is option (Runs file) asks = let alone = asks.1 in no_test (names_workers_alone words) option alone
+option-asks_none words a is option (Checks files) asks = run-no_check a files (asked-same (job_of words) (asked_of (Run a)) (asked_by (Checks files)) is asks)
+option-asks_none words a is option (Posts files) asks = run-no_post a files (asked-same (job_of words) (asked_of (Run a)) (asked_by (Posts files)) is asks)
+
+-- the command is none of these
+other_command : (asked : Asked) → bytes_eq asked.command (codes "run") ≡ false → bytes_eq asked.command (codes "check") ≡ false → bytes_eq asked.command (codes "post") ≡ false → (built : Built) → asked ≡ asked_by built → ⊥
+other_command asked run check post (Runs file) e = apart asked.command (codes "run") run (ap (λ (x : Asked). x.command) e)
+other_command asked run check post (Checks files) e = apart asked.command (codes "check") check (ap (λ (x : Asked). x.command) e)
+other_command asked run check post (Posts files) e = apart asked.command (codes "post") post (ap (λ (x : Asked). x.command) e)
+
+other-not_built : (job : Job) → ((a : RunArgs) → job ≡ Run a → ⊥) → ((n : Names) → job ≡ Check n → ⊥) → ((n : Names) → job ≡ Post n → ⊥) → (built : Built) → asked_of job ≡ asked_by built → ⊥
+other-not_built (Run a) not_run not_check not_post built e = not_run a refl
+other-not_built (Check n) not_run not_check not_post built e = not_check n refl
+other-not_built (Post n) not_run not_check not_post built e = not_post n refl
+other-not_built (Plain a) not_run not_check not_post built e = other_command (asked_of (Plain a)) refl refl refl built e
+other-not_built (Sim a) not_run not_check not_post built e = other_command (asked_of (Sim a)) refl refl refl built e
+other-not_built (Gen a) not_run not_check not_post built e = other_command (asked_of (Gen a)) refl refl refl built e
+
+pub other-asks_none : (words : List (List ℕ)) (job : Job) → job_of words ≡ Some (asked_of job) → ((a : RunArgs) → job ≡ Run a → ⊥) → ((n : Names) → job ≡ Check n → ⊥) → ((n : Names) → job ≡ Post n → ⊥) → AsksForNone words
+other-asks_none words job is not_run not_check not_post = asks_none words (asked_of job) is (other-not_built job not_run not_check not_post)

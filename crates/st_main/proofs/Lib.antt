@@ -2,4 +2,8 @@ pub mod Cutting
 pub mod Names
 pub mod FormFunctions
 pub mod ReadOn
+pub mod ReadTexts
+pub mod UnitLines
 pub mod Answering
+pub mod Listings
+pub mod Posting

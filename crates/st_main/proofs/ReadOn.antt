@@ -1,5 +1,5 @@
 -- Reading a file piece by piece. reads-more: a read behind what was read; progress-start, progress-more: what holds from read to read;
--- progress-end, progress-long: what it gives at the end of the file, and where more is read than a text may have.
+-- progress-end, progress-long: what it gives at the end of the file, and where more is read than there is room for.
 use Rattle.std.proofs.Common.{◌≡◌, ℕ, ◌+◌, ◌<◌, ◌≤◌, Bool, false, List, [], ◌++◌, length, take, drop, Option, Some, None, refl, sym, ap, ◌∙◌, subst, arith, ◌⊎◌, inl, inr}
 use Rattle.std.specs.Prelude.{IfSome, IsSomeAnd}
 use Rattle.std.proofs.lemmas.List.{take_all, length-append, length-drop}
@@ -80,20 +80,20 @@ pub progress-more : (contents : Option (List ℕ → Option (List ℕ))) (name o
 progress-more None name old new more p r = tt
 progress-more (Some files) name old new more p r = progress_at (files name) old new more p r
 
-end_at : (files : List ℕ → Option (List ℕ)) (name old new : List ℕ) (o : Option (List ℕ)) → files name ≡ o → ProgressAt o old → IsSomeAnd o (λ file. Extends file old new false) → HasStart (Some files) name new
-end_at files name old new None e p r = absurd r
-end_at files name old new (Some file) e p r = record { file = file; is = e; start = inl (r.all (front_at file old p) refl) }
+end_at : (files : List ℕ → Option (List ℕ)) (name : List ℕ) (room : ℕ) (old new : List ℕ) (o : Option (List ℕ)) → files name ≡ o → ProgressAt o old → IsSomeAnd o (λ file. Extends file old new false) → HasStart (Some files) name room new
+end_at files name room old new None e p r = absurd r
+end_at files name room old new (Some file) e p r = record { file = file; is = e; start = inl (r.all (front_at file old p) refl) }
 
-pub progress-end : (contents : Option (List ℕ → Option (List ℕ))) (name old new : List ℕ) (more : Bool) → more ≡ false → Progress contents name old → Reads contents name old new more → HasStart contents name new
-progress-end None name old new more m p r = record { file = new; is = tt; start = inl refl }
-progress-end (Some files) name old new more m p r =
-    end_at files name old new (files name) refl p (subst (λ b. IsSomeAnd (files name) (λ file. Extends file old new b)) m r)
+pub progress-end : (contents : Option (List ℕ → Option (List ℕ))) (name : List ℕ) (room : ℕ) (old new : List ℕ) (more : Bool) → more ≡ false → Progress contents name old → Reads contents name old new more → HasStart contents name room new
+progress-end None name room old new more m p r = record { file = new; is = tt; start = inl refl }
+progress-end (Some files) name room old new more m p r =
+    end_at files name room old new (files name) refl p (subst (λ b. IsSomeAnd (files name) (λ file. Extends file old new b)) m r)
 
-long_at : (files : List ℕ → Option (List ℕ)) (name text : List ℕ) (o : Option (List ℕ)) → files name ≡ o → 1048576 < length text → ProgressAt o text → HasStart (Some files) name text
-long_at files name text o e long (inl none) = absurd (let zero' : length text ≡ 0 = ap length none in omega (arith, long, zero'))
-long_at files name text None e long (inr f) = absurd f
-long_at files name text (Some file) e long (inr f) = record { file = file; is = e; start = inr (f, long) }
+long_at : (files : List ℕ → Option (List ℕ)) (name : List ℕ) (room : ℕ) (text : List ℕ) (o : Option (List ℕ)) → files name ≡ o → room < length text → ProgressAt o text → HasStart (Some files) name room text
+long_at files name room text o e long (inl none) = absurd (let zero' : length text ≡ 0 = ap length none in omega (arith, long, zero'))
+long_at files name room text None e long (inr f) = absurd f
+long_at files name room text (Some file) e long (inr f) = record { file = file; is = e; start = inr (f, long) }
 
-pub progress-long : (contents : Option (List ℕ → Option (List ℕ))) (name text : List ℕ) → 1048576 < length text → Progress contents name text → HasStart contents name text
-progress-long None name text long p = record { file = text; is = tt; start = inl refl }
-progress-long (Some files) name text long p = long_at files name text (files name) refl long p
+pub progress-long : (contents : Option (List ℕ → Option (List ℕ))) (name : List ℕ) (room : ℕ) (text : List ℕ) → room < length text → Progress contents name text → HasStart contents name room text
+progress-long None name room text long p = record { file = text; is = tt; start = inl refl }
+progress-long (Some files) name room text long p = long_at files name room text (files name) refl long p

@@ -1,117 +1,58 @@
 //! The program as one call over the outside.
-ghost use Rattle.std.specs.Prelude.{◌≡◌, ◌⊎◌, ◌∷◌, [], ℕ, List, map, None, Some, IfOk, length, string_bytes};
-ghost use Rattle.st_main.specs.Answer.{AsksForNone, HasOneName, NamesItsFile, outcome_by_form, outcome_of, AnswersText, AnswersFile, IsAnswer, RefusesWords, seen_of};
-ghost use Rattle.st_main.specs.Form.{departing_line};
+ghost use Rattle.std.specs.Prelude.{◌≡◌, ◌⊎◌, map, Some, string_bytes, ℕ};
+ghost use Rattle.st_main.specs.Answer.{AsksForNone, IsAnswer, RefusesWords, seen_of};
 ghost use Rattle.st_jobs.specs.Commands.{job_of};
 ghost use Rattle.st_jobs.specs.Jobs.{asked_of};
 
+use crate::check::check_command;
 use crate::exit::Exit;
-use crate::form::{FormError, read_form};
-use crate::outcome::Outcome;
-use crate::reading::{ReadError, read_texts};
-use crate::report::{finish, run_out, tell};
-use crate::words::file_to_run;
-use st_asm::{AsmError, read_unit};
+use crate::post::post_command;
+use crate::report::{run_out, tell};
+use crate::run::run_command;
+use crate::words::{file_to_run, name_workers_alone};
 use st_base::outside::{Files, Gate, Sink, Source};
-use st_jobs::{Job, WordsError, read_words};
-use st_model::ordinary::ordinary;
+use st_jobs::{Job, RunArgs, WordsError, read_words};
 use st_print::Fault;
-use std::alloc::{AllocError, Global};
+use std::alloc::Global;
 use std::sync::Wait;
 use std::thread::Threads;
 
-/// The most steps of a run: 2^32.
-const STEPS: u64 = 4_294_967_296;
-
-/// What a text that reads comes to: its program is run by the ordinary-call run, or it is refused.
-fn outcome_of_form(alloc: Global, text: &[u8]) -> Result<Outcome, AllocError>
-    ensures outcome { IfOk result (λ outcome. outcome_by_form text.now (departing_line text.now) ≡ Some outcome) }
-    ensures names { IfOk result NamesItsFile }
-{
-    match read_form(alloc, text) {
-        Ok(program) => Ok(Outcome::of_end(alloc, ordinary(alloc, &program, &[], &[], STEPS)?)),
-        Err(FormError::Departs { line }) => Ok(Outcome::of_departure(alloc, line)),
-        Err(FormError::OutOfMemory) => Err(AllocError),
-    }
-}
-
-/// The one text of a list.
-fn one_text(texts: &[Vec<u8>]) -> &[u8]
-    requires { length texts.now ≡ 1 }
-    ensures { map (λ t. t.items) texts.now ≡ result.now ∷ [] }
-{
-    match texts {
-        [text] => text.as_slice(),
-        _ => &[],
-    }
-}
-
-/// What a text comes to: it is refused at its first fault, or goes by the form.
-fn outcome_of(alloc: Global, texts: &[Vec<u8>]) -> Result<Outcome, AllocError>
-    requires { length texts.now ≡ 1 }
-    ensures outcome { IfOk result (λ outcome. (text : List ℕ) → map (λ t. t.items) texts.now ≡ text ∷ [] → outcome_of text ≡ Some outcome) }
-    ensures names { IfOk result NamesItsFile }
-{
-    match read_unit(alloc, texts) {
-        Ok(_unit) => outcome_of_form(alloc, one_text(texts)),
-        Err(AsmError::Fault(fault)) => Ok(Outcome::of_refusal(alloc, fault)),
-        Err(AsmError::OutOfMemory) => Err(AllocError),
-    }
-}
-
-/// Answers on a text of the file of the one name.
-fn answer_text<K: Sink>(
+/// Answers on a run that these words ask for: that of one file, or it isn't built yet.
+fn answer_run<F: Files, K: Sink>(
     alloc: Global,
-    out: &mut K,
-    err: &mut K,
-    names: &[String],
-    texts: &[Vec<u8>],
-) -> Exit
-    requires name { HasOneName (map (λ n. string_bytes n) names.now) }
-    requires text { length texts.now ≡ 1 }
-    ensures { (file text : List ℕ) → map (λ n. string_bytes n) names.now ≡ file ∷ [] → map (λ t. t.items) texts.now ≡ text ∷ [] → (before after : ℕ) → AnswersText file text (seen_of before after (K.faults out.old) (K.faults out.new) (K.taken out.old) (K.taken out.new) (K.faults err.old) (K.faults err.new) (K.taken err.old) (K.taken err.new)) result }
-{
-    match outcome_of(alloc, texts) {
-        Ok(outcome) => finish(out, err, names, outcome),
-        Err(_) => run_out(out, err),
-    }
-}
-
-/// Answers on the file of the one name.
-fn answer_file<F: Files, K: Sink>(
-    alloc: Global,
+    words: &[String],
     files: &mut F,
     out: &mut K,
     err: &mut K,
-    names: &[String],
+    args: &RunArgs,
 ) -> Exit
-    requires name { HasOneName (map (λ n. string_bytes n) names.now) }
-    requires one { length names.now ≡ 1 }
-    ensures { (file : List ℕ) → map (λ n. string_bytes n) names.now ≡ file ∷ [] → AnswersFile (F.contents files.old) file (seen_of (F.faults files.old) (F.faults files.new) (K.faults out.old) (K.faults out.new) (K.taken out.old) (K.taken out.new) (K.faults err.old) (K.faults err.new) (K.taken err.old) (K.taken err.new)) result }
+    ensures { job_of (map (λ n. string_bytes n) words.now) ≡ Some (asked_of (Job.Run args.now)) → IsAnswer (map (λ n. string_bytes n) words.now) (F.contents files.old) (seen_of (F.faults files.old) (F.faults files.new) (K.faults out.old) (K.faults out.new) (K.taken out.old) (K.taken out.new) (K.faults err.old) (K.faults err.new) (K.taken err.old) (K.taken err.new)) result }
 {
-    match read_texts(alloc, files, names) {
-        Ok(texts) => answer_text(alloc, out, err, names, texts.as_slice()),
-        Err(ReadError::Fault) => {
-            tell(err, names, &Fault::ReadFile { file: 1 });
-            Exit::ReadFault
-        }
-        Err(ReadError::OutOfMemory) => run_out(out, err),
+    if !name_workers_alone(words) {
+        return refuse_words(out, err);
+    }
+    match file_to_run(args) {
+        Some(names) => run_command(alloc, names, files, out, err),
+        None => refuse_words(out, err),
     }
 }
 
-/// Answers on a job: the run of one file, or it isn't built yet.
+/// Answers on a job that these words ask for: the run of a file, the check of files, their postprocessing, or it isn't built yet.
 fn answer_job<F: Files, K: Sink>(
     alloc: Global,
+    words: &[String],
     files: &mut F,
     out: &mut K,
     err: &mut K,
     job: &Job,
 ) -> Exit
-    ensures { (words : List (List ℕ)) → job_of words ≡ Some (asked_of job.now) → IsAnswer words (F.contents files.old) (seen_of (F.faults files.old) (F.faults files.new) (K.faults out.old) (K.faults out.new) (K.taken out.old) (K.taken out.new) (K.faults err.old) (K.faults err.new) (K.taken err.old) (K.taken err.new)) result }
+    ensures { job_of (map (λ n. string_bytes n) words.now) ≡ Some (asked_of job.now) → IsAnswer (map (λ n. string_bytes n) words.now) (F.contents files.old) (seen_of (F.faults files.old) (F.faults files.new) (K.faults out.old) (K.faults out.new) (K.taken out.old) (K.taken out.new) (K.faults err.old) (K.faults err.new) (K.taken err.old) (K.taken err.new)) result }
 {
-    match file_to_run(job) {
-        Some(names) => answer_file(alloc, files, out, err, names),
-        None => refuse_words(out, err),
+    match job {
+        Job::Run(args) => answer_run(alloc, words, files, out, err, args),
+        Job::Check(names) => check_command(alloc, names, files, out, err),
+        Job::Post(names) => post_command(alloc, names, files, out, err),
+        _ => refuse_words(out, err),
     }
 }
 
@@ -126,7 +67,7 @@ fn answer_words<F: Files, K: Sink>(
     ensures { IsAnswer (map (λ n. string_bytes n) words.now) (F.contents files.old) (seen_of (F.faults files.old) (F.faults files.new) (K.faults out.old) (K.faults out.new) (K.taken out.old) (K.taken out.new) (K.faults err.old) (K.faults err.new) (K.taken err.old) (K.taken err.new)) result }
 {
     match read_words(alloc, words) {
-        Ok(job) => answer_job(alloc, files, out, err, &job),
+        Ok(job) => answer_job(alloc, words, files, out, err, &job),
         Err(WordsError::Usage) => refuse_words(out, err),
         Err(WordsError::OutOfMemory) => run_out(out, err),
     }
@@ -140,10 +81,10 @@ fn refuse_words<K: Sink>(out: &mut K, err: &mut K) -> Exit
     Exit::Usage
 }
 
-/// The program. The words must ask for the run of one file with one worker and the limits of a run that names none; all
-/// else is `Usage` yet. Reads the file, reads its text, runs its program by the ordinary-call run, prints what the root
-/// printed on `out`, tells any fault on `err`, and answers how the program ends. `input` and `gate` serve no command yet.
-/// How `err` fares changes nothing else.
+/// The program. The words must ask for the check of files, for their postprocessing, or for the run of one file with one
+/// worker, and then name no other option; all else is `Usage` yet. Reads the files, does what the command says with their texts, prints on
+/// `out`, tells any fault on `err`, and answers how the program ends. `input` and `gate` serve no command yet. How `err`
+/// fares changes nothing else.
 pub fn st_main<R: Threads + Wait + Sync, F: Files, S: Source, K: Sink, G: Gate + Sync>(
     rt: &R,
     alloc: Global,

@@ -1,4 +1,4 @@
-//! What a run of a file comes to: how the program exits, what it prints and what fault it tells.
+//! What a command comes to: how the program exits, what it prints and what fault it tells.
 ghost use Rattle.std.specs.Prelude.{◌≡◌};
 ghost use Rattle.st_main.specs.Answer.{in_file};
 
@@ -7,6 +7,8 @@ use st_asm::{AsmFault, AsmKind};
 use st_base::limits::LimitKind;
 use st_base::line::Line;
 use st_base::path::Bytes;
+use st_check::FormFault;
+use st_link::LinkFault;
 use st_model::ordinary::OrdEnd;
 use st_print::Fault;
 use std::alloc::Global;
@@ -30,12 +32,15 @@ fn in_file(line: Line) -> Line
 }
 
 impl Outcome {
-    ghost use Rattle.st_main.specs.Answer.{departure, outcome_of_end, refusal, NamesItsFile};
+    ghost use Rattle.std.specs.Prelude.{None, Some, []};
+    ghost use Rattle.st_print.specs.declared.fault.Fault.TheVariants.{Reading};
+    ghost use Rattle.st_main.specs.Answer.{departure, form_refusal, link_refusal, outcome_of_end, refusal};
+    ghost use Rattle.st_main.specs.Naming.{NamesAmong};
 
     /// The outcome of an end of the ordinary-call run. A run that goes on has met the limit of steps.
     pub fn of_end(alloc: Global, end: OrdEnd) -> Outcome
         ensures end { result ≡ outcome_of_end end }
-        ensures names { NamesItsFile result }
+        ensures names { NamesAmong 1 result }
     {
         match end {
             OrdEnd::Going => Outcome {
@@ -81,7 +86,7 @@ impl Outcome {
     /// The outcome of a text that departs from the form at a line.
     pub fn of_departure(alloc: Global, line: u32) -> Outcome
         ensures departure { result ≡ refusal (departure line) }
-        ensures names { NamesItsFile result }
+        ensures names { NamesAmong 1 result }
     {
         Outcome::of_refusal(
             alloc,
@@ -92,14 +97,58 @@ impl Outcome {
         )
     }
 
-    /// The outcome of a text that is refused.
+    /// The outcome of texts that don't read.
     pub fn of_refusal(alloc: Global, fault: AsmFault) -> Outcome
         ensures { result ≡ refusal fault }
+    {
+        Outcome::refused(alloc, Fault::Reading(fault))
+    }
+
+    /// The outcome of a unit that isn't accepted.
+    pub fn of_form_refusal(alloc: Global, fault: FormFault) -> Outcome
+        ensures { result ≡ form_refusal fault }
+    {
+        Outcome::refused(
+            alloc,
+            Fault::Checking {
+                line: fault.line,
+                kind: fault.kind,
+            },
+        )
+    }
+
+    /// The outcome of a unit with a branch that doesn't reach.
+    pub fn of_link_refusal(alloc: Global, fault: LinkFault) -> Outcome
+        ensures { result ≡ link_refusal fault.line fault.distance }
+    {
+        Outcome::refused(
+            alloc,
+            Fault::Linking {
+                line: fault.line,
+                distance: fault.distance,
+            },
+        )
+    }
+
+    /// The outcome that prints a text.
+    pub fn of_text(text: Vec<u8>) -> Outcome
+        ensures { result ≡ record { exit = Exit.Done; printed = text.items; fault = None } }
+    {
+        Outcome {
+            exit: Exit::Done,
+            printed: Bytes::from_vec(text),
+            fault: None,
+        }
+    }
+
+    /// The outcome that refuses for a fault.
+    fn refused(alloc: Global, fault: Fault) -> Outcome
+        ensures { result ≡ record { exit = Exit.Refused; printed = []; fault = Some fault } }
     {
         Outcome {
             exit: Exit::Refused,
             printed: Bytes::new(alloc),
-            fault: Some(Fault::Reading(fault)),
+            fault: Some(fault),
         }
     }
 }

@@ -1,16 +1,16 @@
-//! Reading a whole file.
-ghost use Rattle.std.specs.Prelude.{◌≡◌, ◌≤◌, ◌<◌, ◌+◌, ℕ, List, length, take, IfOk, IfErr, IfSome, IsSomeAnd, Option, true, ◌^◌, ◌∷◌, [], map, string_bytes};
-ghost use Rattle.st_base.specs.Outside.{HasRisen};
-ghost use Rattle.st_main.specs.declared.reading.ReadError.{ReadError};
-ghost use Rattle.st_main.specs.Reading.{FaultRose, Reads, HasStart};
+//! Reading the texts of files. `read_texts` is the call for a command: it reads the files in their order, each whole, as
+//! long as their texts may yet make a unit.
+ghost use Rattle.std.specs.Prelude.{◌≡◌, ◌≤◌, ◌<◌, ℕ, List, length, IfOk, IfErr, true, ◌^◌, map, string_bytes};
+ghost use Rattle.st_main.specs.Reading.{FaultRose, FaultAt, NamesUnread, Reads, HasStart, HasRead};
 
-use st_base::outside::{Failed, Files};
+use st_base::outside::Files;
 use std::alloc::{AllocError, AllocFailed, Global};
 
-/// Why a file wasn't read.
+/// Why files weren't read.
 #[derive(Clone, Copy, Debug)]
 pub enum ReadError {
-    Fault,
+    /// The file of this number could not be read. Files are counted from 1.
+    Fault { file: u32 },
     OutOfMemory,
 }
 
@@ -36,49 +36,58 @@ impl<T: Drop> From<AllocFailed<T>> for ReadError {
     }
 }
 
-impl From<Failed> for ReadError {
-    ghost use Rattle.std.specs.Prelude.{◌≡◌};
-    ghost use Rattle.st_main.specs.declared.reading.ReadError.TheVariants.{Fault};
-
-    ghost from_gives = { λ _ e. e ≡ Fault };
-
-    fn from(_: Failed) -> Self {
-        ReadError::Fault
-    }
-}
-
-/// The most bytes of a text: 1,048,576.
+/// The most bytes of all texts: 1,048,576.
 const TEXT_LIMIT: usize = 1_048_576;
 
-/// Reads the one file of these names into a list of texts.
+/// Reads the files of these names, of which there are 1 to 64, until their ends or until the texts together have more than
+/// 1,048,576 bytes. Such texts make no unit, whatever the files hold behind them, which aren't read then.
 pub fn read_texts<F: Files>(
     alloc: Global,
     files: &mut F,
     names: &[String],
 ) -> Result<Vec<Vec<u8>>, ReadError>
-    requires { length names.now ≡ 1 }
+    requires some { 1 ≤ length names.now }
+    requires few { length names.now ≤ 64 }
     ensures contents { F.contents files.new ≡ F.contents files.old }
     ensures faults { F.faults files.old ≤ F.faults files.new }
     ensures fault { IfErr result (FaultRose (F.faults files.old) (F.faults files.new)) }
-    ensures one { IfOk result (λ texts. length texts.items ≡ 1) }
-    ensures text { IfOk result (λ texts. (file : List ℕ) → map (λ n. string_bytes n) names.now ≡ file ∷ [] → (text : List ℕ) × (map (λ t. t.items) texts.items ≡ text ∷ []) × HasStart (F.contents files.old) file text) }
+    ensures file { IfErr result (NamesUnread (length names.now)) }
+    ensures some { IfOk result (λ texts. 1 ≤ length texts.items) }
+    ensures few { IfOk result (λ texts. length texts.items ≤ length names.now) }
+    ensures texts { IfOk result (λ texts. HasRead (F.contents files.old) (map (λ n. string_bytes n) names.now) (map (λ t. t.items) texts.items)) }
 {
-    let text = read_text(alloc, files, names[0].as_str())?;
     let mut texts = Vec::new(alloc);
-    texts.push(text)?;
+    let mut room = TEXT_LIMIT;
+    for (i, name) in names.iter().enumerate() {
+        let text = read_text(alloc, files, name.as_str(), i as u32 + 1, room)?;
+        let length = text.as_slice().len();
+        texts.push(text)?;
+        if room < length {
+            return Ok(texts);
+        }
+        room -= length;
+    }
     Ok(texts)
 }
 
-/// Reads a file from its front until its end, or until more than 1,048,576 bytes are read.
-fn read_text<F: Files>(alloc: Global, files: &mut F, name: &str) -> Result<Vec<u8>, ReadError>
+/// Reads a file, which has this number, from its front until its end, or until more bytes are read than there is room for.
+fn read_text<F: Files>(
+    alloc: Global,
+    files: &mut F,
+    name: &str,
+    number: u32,
+    room: usize,
+) -> Result<Vec<u8>, ReadError>
+    requires { room ≤ 1048576 }
     ensures contents { F.contents files.new ≡ F.contents files.old }
     ensures faults { F.faults files.old ≤ F.faults files.new }
     ensures fault { IfErr result (FaultRose (F.faults files.old) (F.faults files.new)) }
-    ensures text { IfOk result (λ text. HasStart (F.contents files.old) name.now text.items) }
+    ensures file { IfErr result (FaultAt number) }
+    ensures text { IfOk result (λ text. HasStart (F.contents files.old) name.now room text.items) }
 {
     let mut text = Vec::new(alloc);
-    while text.len() <= TEXT_LIMIT {
-        if !read_piece(files, name, &mut text)? {
+    while text.len() <= room {
+        if !read_piece(files, name, number, &mut text)? {
             return Ok(text);
         }
     }
@@ -86,17 +95,25 @@ fn read_text<F: Files>(alloc: Global, files: &mut F, name: &str) -> Result<Vec<u
 }
 
 /// Reads the next bytes of a file behind those that were read; false where there are no more.
-fn read_piece<F: Files>(files: &mut F, name: &str, text: &mut Vec<u8>) -> Result<bool, ReadError>
+fn read_piece<F: Files>(
+    files: &mut F,
+    name: &str,
+    number: u32,
+    text: &mut Vec<u8>,
+) -> Result<bool, ReadError>
     requires { length text.old.items < 2 ^ 32 }
     ensures contents { F.contents files.new ≡ F.contents files.old }
     ensures faults { F.faults files.old ≤ F.faults files.new }
     ensures fault { IfErr result (FaultRose (F.faults files.old) (F.faults files.new)) }
+    ensures file { IfErr result (FaultAt number) }
     ensures more { IfOk result (λ more. more ≡ true → length text.old.items < length text.new.items) }
     ensures read { IfOk result (λ more. Reads (F.contents files.old) name.now text.old.items text.new.items more) }
 {
     let mut buffer = [0; 4096];
     let place = text.as_slice().len();
-    let count = files.read_at(name, place as u64, &mut buffer)?;
+    let Ok(count) = files.read_at(name, place as u64, &mut buffer) else {
+        return Err(ReadError::Fault { file: number });
+    };
     text.extend_from_slice(&buffer[..count])?;
     Ok(count > 0)
 }

@@ -10,9 +10,10 @@ use std::sync::Wait;
 use std::test::Fail;
 use std::thread::Threads;
 
-const PROLOGUE: &str = "    addi sp,sp,-16\n    sd ra,8(sp)\n    sd s0,0(sp)\n    addi s0,sp,16\n";
+pub const PROLOGUE: &str =
+    "    addi sp,sp,-16\n    sd ra,8(sp)\n    sd s0,0(sp)\n    addi s0,sp,16\n";
 
-const EPILOGUE: &str = "    ld ra,8(sp)\n    ld s0,0(sp)\n    addi sp,sp,16\n    ret\n";
+pub const EPILOGUE: &str = "    ld ra,8(sp)\n    ld s0,0(sp)\n    addi sp,sp,16\n    ret\n";
 
 const GREETING: &str =
     "    li a0,72\n    call st_putc\n    call f\n    call st_putc\n    li a0,0\n";
@@ -29,7 +30,7 @@ fn program(alloc: Global, body: &str, more: &str) -> Result<String, AllocError> 
     format!(in alloc; "main:\n{PROLOGUE}{body}{EPILOGUE}{more}")
 }
 
-fn words(alloc: Global, all: &[&str]) -> Result<Vec<String>, AllocError> {
+pub fn words(alloc: Global, all: &[&str]) -> Result<Vec<String>, AllocError> {
     let mut words = Vec::new(alloc);
     for word in all {
         words.push(String::from_str(alloc, word)?)?;
@@ -173,7 +174,7 @@ fn words_come_to<R: Threads + Wait + Sync>(
 #[test]
 fn takes_no_other_words(rt: HostRuntime) -> Result<(), Fail> {
     let alloc = rt.alloc();
-    let lists: [&[&str]; 16] = [
+    let lists: [&[&str]; 17] = [
         &[],
         &["run"],
         &["run", "--workers", "17", "t.s"],
@@ -186,9 +187,10 @@ fn takes_no_other_words(rt: HostRuntime) -> Result<(), Fail> {
         // these are not built yet
         &["run", "--workers", "2", "t.s"],
         &["run", "--cells", "20", "t.s"],
+        &["run", "--cells", "16384", "t.s"],
+        &["run", "--stack=1048576", "t.s"],
         &["run", "t.s", "t.s"],
         &["plain", "t.s"],
-        &["check", "t.s"],
         &["post", "t.s"],
         &["gen", "--number", "7"],
     ];
@@ -204,11 +206,10 @@ fn takes_no_other_words(rt: HostRuntime) -> Result<(), Fail> {
         );
     }
     assert_eq!(rt; Exit::Usage.status(), 1);
-    let lists: [&[&str]; 4] = [
+    let lists: [&[&str]; 3] = [
         &["run", "t.s"],
         &["run", "--workers=1", "t.s"],
         &["run", "t.s", "--workers", "01"],
-        &["run", "--cells", "16384", "t.s"],
     ];
     for list in lists {
         assert!(rt;

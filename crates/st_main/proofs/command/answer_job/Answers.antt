@@ -1,11 +1,17 @@
-use Rattle.std.proofs.Common.{◌∙◌, Some, ap, inl, inr}
+use Rattle.std.proofs.Common.{◌∙◌, Some, ap, inl, inr, map, string_bytes}
+use Rattle.st_jobs.specs.Jobs.{asked_of, file_texts}
+use Rattle.st_main.specs.Answer.{Checks, Posts}
+use Rattle.st_main.proofs.Answering.{other-asks_none}
 use Rattle.st_main.proofs.command.answer_job.Goals as goal
 
-pub returns-in-Some : goal.returns-in-Some
-returns-in-Some g c = λ words asks.
-    let run = c.in-Some.ensures.some in
-    inr (inr (run.0, asks ∙ ap (λ a. Some a) run.2, c.answer_file.ensures run.0 run.1))
+pub returns-in-Check : goal.returns-in-Check
+returns-in-Check g c = λ asks.
+    inr (inr (Checks (file_texts c.in-Check.names), asks ∙ ap (λ j. Some (asked_of j)) c.in-Check.is, c.check_command.ensures))
 
-pub returns-in-None : goal.returns-in-None
-returns-in-None g c = λ words asks.
-    inr (inl (λ file is. c.in-None.ensures.none file (let same = is in let given = asks in cc), c.refuse_words.ensures (g.F.Files.faults c.args.files.now) (g.F.Files.faults c.args.files.now)))
+pub returns-in-Post : goal.returns-in-Post
+returns-in-Post g c = λ asks.
+    inr (inr (Posts (file_texts c.in-Post.names), asks ∙ ap (λ j. Some (asked_of j)) c.in-Post.is, c.post_command.ensures))
+
+pub returns-in_default : goal.returns-in_default
+returns-in_default g c = λ asks.
+    inr (inl (other-asks_none (map (λ n. string_bytes n) c.args.words.now) c.args.job.now asks c.in_default.not-Run c.in_default.not-Check c.in_default.not-Post, c.refuse_words.ensures (g.F.Files.faults c.args.files.now) (g.F.Files.faults c.args.files.now)))

@@ -1,6 +1,6 @@
 use Rattle.std.proofs.Common.{map}
 use Rattle.std.specs.Prelude.{string_bytes}
-use Rattle.st_main.specs.Answer.{Seen, seen_of}
+use Rattle.st_main.specs.Answer.{seen_of}
 use Rattle.st_main.proofs.Answering.{usage-asks_none, none-is_usage}
 use Rattle.st_main.proofs.command.st_main.Goals as goal
 

@@ -1,4 +1,4 @@
-use Rattle.std.proofs.Common.{◌≡◌, ◌≤◌, ◌-◌, length}
+use Rattle.std.proofs.Common.{◌≡◌, ◌≤◌, ◌-◌, ◌+◌, length}
 use Rattle.st_main.proofs.ReadOn.{Progress}
 use Rattle.st_main.proofs.reading.read_text.Given as goal
 
@@ -10,4 +10,4 @@ invariant-loop-files g l = record {
 }
 
 abbrev pub decreases-loop-files : goal.decreases-loop-files
-decreases-loop-files g l = 1048577 - length l.text.items
+decreases-loop-files g l = l.room + 1 - length l.text.items
