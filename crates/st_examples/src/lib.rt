@@ -3,6 +3,10 @@
 #![tactic(auto)]
 
 #[cfg(test)]
+mod long;
+#[cfg(test)]
+mod posting;
+#[cfg(test)]
 mod programs;
 #[cfg(test)]
 mod texts;
