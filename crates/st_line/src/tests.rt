@@ -506,6 +506,16 @@ fn registers_have_numbers(rt: HostRuntime) -> Result<(), Fail> {
     Ok(())
 }
 
+/// What a line says there, where only its faults are told apart.
+fn outcome(alloc: Global, standing: Standing, line: &[u8]) -> Result<String, AllocError> {
+    let text = said(alloc, standing, line)?;
+    if text.as_str().starts_with("Some") {
+        String::from_str(alloc, "statement")
+    } else {
+        Ok(text)
+    }
+}
+
 /// What stands where a byte is put in front of `nop`.
 fn in_front(byte: u8) -> &'static str {
     match byte {
@@ -521,8 +531,8 @@ fn in_front(byte: u8) -> &'static str {
 /// What stands where a byte is put into the name of `j aa`.
 fn in_name(byte: u8) -> &'static str {
     match byte {
-        b'#' => "name",
-        b'a'..=b'z' | b'A'..=b'Z' | b'0'..=b'9' | b'_' | b'.' | b'$' => "name",
+        b'#' => "statement",
+        b'a'..=b'z' | b'A'..=b'Z' | b'0'..=b'9' | b'_' | b'.' | b'$' => "statement",
         b'\t' | b'\n' | b'\r' | b' '..=b'~' => "E4 BadOperand",
         _ => "E1 NotAscii",
     }
@@ -532,7 +542,7 @@ fn in_name(byte: u8) -> &'static str {
 fn in_string(byte: u8) -> &'static str {
     match byte {
         b'\n' | b'"' | b'\\' => "E4 BadOperand",
-        b'\t' | b'\r' | b' '..=b'~' => "string",
+        b'\t' | b'\r' | b' '..=b'~' => "statement",
         _ => "E1 NotAscii",
     }
 }
@@ -543,26 +553,157 @@ fn each_byte_has_its_place(rt: HostRuntime) -> Result<(), Fail> {
     for byte in 0..=255 {
         let front = said(alloc, BODY, &[byte, b'n', b'o', b'p'])?;
         assert_eq!(rt; front.as_str(), in_front(byte), "{byte} in front");
-        let name = said(alloc, BODY, &[b'j', b' ', b'a', byte, b'a'])?;
-        let text = if name.as_str().starts_with("Some") {
-            "name"
-        } else {
-            name.as_str()
-        };
-        assert_eq!(rt; text, in_name(byte), "{byte} in a name");
-        let string = said(
+        let name = outcome(alloc, BODY, &[b'j', b' ', b'a', byte, b'a'])?;
+        assert_eq!(rt; name.as_str(), in_name(byte), "{byte} in a name");
+        let string = outcome(
             alloc,
             DATA,
             &[
                 b'.', b'a', b's', b'c', b'i', b'i', b' ', b'"', byte, b'q', b'"',
             ],
         )?;
-        let text = if string.as_str().starts_with("Some") {
-            "string"
-        } else {
-            string.as_str()
-        };
-        assert_eq!(rt; text, in_string(byte), "{byte} in a string");
+        assert_eq!(rt; string.as_str(), in_string(byte), "{byte} in a string");
+    }
+    Ok(())
+}
+
+/// What stands where a byte is put into a comment.
+fn in_comment(byte: u8) -> &'static str {
+    match byte {
+        b'\t' | b'\n' | b'\r' | b' '..=b'~' => "statement",
+        _ => "E1 NotAscii",
+    }
+}
+
+/// What stands where a byte is put between the digits of `li a0,11`.
+fn in_number(byte: u8) -> &'static str {
+    match byte {
+        b'#' | b'0'..=b'9' => "statement",
+        b'\t' | b'\n' | b'\r' | b' '..=b'~' => "E4 BadOperand",
+        _ => "E1 NotAscii",
+    }
+}
+
+/// What stands where a byte is put behind the last letter of `mv a0,a`.
+fn in_register(byte: u8) -> &'static str {
+    match byte {
+        b'0'..=b'7' => "statement",
+        b'\t' | b'\n' | b'\r' | b' '..=b'~' => "E4 BadOperand",
+        _ => "E1 NotAscii",
+    }
+}
+
+/// What stands where a byte is put behind a backslash in a string.
+fn in_escape(byte: u8) -> &'static str {
+    match byte {
+        b'n' | b't' | b'0' | b'\\' | b'"' => "statement",
+        b'\t' | b'\n' | b'\r' | b' '..=b'~' => "E4 BadOperand",
+        _ => "E1 NotAscii",
+    }
+}
+
+/// What stands where a byte is put between two operands.
+fn between_operands(byte: u8) -> &'static str {
+    match byte {
+        b'\t' | b'\n' | b'\r' | b' ' => "statement",
+        b'!'..=b'~' => "E4 BadOperand",
+        _ => "E1 NotAscii",
+    }
+}
+
+#[test]
+fn each_byte_has_its_place_in_an_operand(rt: HostRuntime) -> Result<(), Fail> {
+    let alloc = rt.alloc();
+    for byte in 0..=255 {
+        let comment = outcome(alloc, BODY, &[b'n', b'o', b'p', b'#', byte])?;
+        assert_eq!(rt; comment.as_str(), in_comment(byte), "{byte} in a comment");
+        let number = outcome(
+            alloc,
+            BODY,
+            &[b'l', b'i', b' ', b'a', b'0', b',', b'1', byte, b'1'],
+        )?;
+        assert_eq!(rt; number.as_str(), in_number(byte), "{byte} in a number");
+        let register = outcome(
+            alloc,
+            BODY,
+            &[b'm', b'v', b' ', b'a', b'0', b',', b'a', byte],
+        )?;
+        assert_eq!(rt;
+            register.as_str(),
+            in_register(byte),
+            "{byte} in a register"
+        );
+        let escape = outcome(
+            alloc,
+            DATA,
+            &[
+                b'.', b'a', b's', b'c', b'i', b'i', b' ', b'"', b'\\', byte, b'"',
+            ],
+        )?;
+        assert_eq!(rt; escape.as_str(), in_escape(byte), "{byte} in an escape");
+        let between = outcome(
+            alloc,
+            BODY,
+            &[b'm', b'v', b' ', b'a', b'0', b',', byte, b'a', b'1'],
+        )?;
+        assert_eq!(rt;
+            between.as_str(),
+            between_operands(byte),
+            "{byte} between operands"
+        );
+    }
+    Ok(())
+}
+
+/// The label of `aa:` where a byte is put into it.
+fn labelled(byte: u8) -> Option<[u8; 3]> {
+    match byte {
+        b'a'..=b'z' | b'A'..=b'Z' | b'0'..=b'9' | b'_' | b'.' | b'$' => Some([b'a', byte, b'a']),
+        _ => None,
+    }
+}
+
+#[test]
+fn each_byte_has_its_place_in_a_label(rt: HostRuntime) -> Result<(), Fail> {
+    let alloc = rt.alloc();
+    for byte in 0..=255 {
+        let line = [b'a', byte, b'a', b':'];
+        let found = line_label(alloc, &line)?;
+        match labelled(byte) {
+            Some(name) => assert_eq!(rt; found, Some(name.as_slice()), "{byte}"),
+            None => {
+                let front = if byte == b':' {
+                    Some(b"a".as_slice())
+                } else {
+                    None
+                };
+                assert_eq!(rt; found, front, "{byte}");
+            }
+        }
+    }
+    Ok(())
+}
+
+#[test]
+fn some_directives_are_ignored(rt: HostRuntime) -> Result<(), Fail> {
+    let alloc = rt.alloc();
+    for name in [
+        ".globl",
+        ".file",
+        ".option",
+        ".attribute",
+        ".type",
+        ".size",
+        ".ident",
+    ] {
+        let line = format!(in alloc; "x: {name} \"a\" ,, (1 @")?;
+        for standing in [OUTSIDE, HEAD, BODY, DATA] {
+            assert_eq!(rt;
+                said(alloc, standing, line.as_bytes())?.as_str(),
+                "Some(Ignored)",
+                "{name}"
+            );
+        }
     }
     Ok(())
 }
