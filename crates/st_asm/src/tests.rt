@@ -233,11 +233,51 @@ fn sixty_four_files_are_read(rt: HostRuntime) -> Result<(), Fail> {
     Ok(())
 }
 
+/// Two files: a comment of so many bytes, and another text.
+fn comment_and(alloc: Global, count: usize, second: &str) -> Result<Vec<Vec<u8>>, AllocError> {
+    let mut texts = repeated(alloc, "#", "y", count.saturating_sub(1))?;
+    texts.push(Vec::from_slice(alloc, second.as_bytes())?)?;
+    Ok(texts)
+}
+
+#[test]
+fn the_file_past_the_limit_is_told(rt: HostRuntime) -> Result<(), Fail> {
+    let alloc = rt.alloc();
+    assert_eq!(rt;
+        fault(alloc, &comment_and(alloc, 1_048_575, "?")?)?.as_str(),
+        "2:1: E2 BadLine"
+    );
+    // no other fault is looked for
+    assert_eq!(rt;
+        fault(alloc, &comment_and(alloc, 1_048_575, "?\n")?)?.as_str(),
+        "2:1: E8 TooLarge"
+    );
+    assert_eq!(rt;
+        fault(alloc, &comment_and(alloc, 1_048_577, "?")?)?.as_str(),
+        "1:1: E8 TooLarge"
+    );
+    Ok(())
+}
+
 #[test]
 fn entries_have_their_addresses(rt: HostRuntime) {
-    assert_eq!(rt; entry_at(b"st_putc"), Some(0x90));
+    let entries: [(&[u8], u32); 9] = [
+        (b"st_fork_in", 0x10),
+        (b"st_fork_out", 0x20),
+        (b"st_end", 0x30),
+        (b"st_touch", 0x40),
+        (b"st_counter", 0x50),
+        (b"st_done", 0x60),
+        (b"st_join", 0x70),
+        (b"st_poll", 0x80),
+        (b"st_putc", 0x90),
+    ];
+    for (name, address) in entries {
+        assert_eq!(rt; entry_at(name), Some(address));
+        assert!(rt; is_entry(name));
+    }
     assert_eq!(rt; entry_at(b"st_put"), None);
-    assert!(rt; is_entry(b"st_fork_in"));
+    assert!(rt; !is_entry(b"st_put"));
     assert!(rt; is_local(b".Lx"));
     assert!(rt; !is_local(b".x"));
 }
