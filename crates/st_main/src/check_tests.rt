@@ -240,6 +240,23 @@ fn reads_no_file_behind_the_limit(rt: HostRuntime) -> Result<(), Fail> {
 }
 
 #[test]
+fn reads_a_file_again_that_is_named_twice(rt: HostRuntime) -> Result<(), Fail> {
+    let alloc = rt.alloc();
+    let text = empty(alloc)?;
+    assert!(rt;
+        come_to(
+            &rt,
+            alloc,
+            &["check", "empty.s", "empty.s"],
+            &[("empty.s", text.as_bytes())],
+            (0, 0),
+            (Exit::Refused, b"", b"empty.s:1: E6 DoubleLabel\n")
+        )?
+    );
+    Ok(())
+}
+
+#[test]
 fn takes_64_files(rt: HostRuntime) -> Result<(), Fail> {
     let alloc = rt.alloc();
     let text = empty(alloc)?;

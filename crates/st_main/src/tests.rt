@@ -174,7 +174,7 @@ fn words_come_to<R: Threads + Wait + Sync>(
 #[test]
 fn takes_no_other_words(rt: HostRuntime) -> Result<(), Fail> {
     let alloc = rt.alloc();
-    let lists: [&[&str]; 17] = [
+    let lists: [&[&str]; 16] = [
         &[],
         &["run"],
         &["run", "--workers", "17", "t.s"],
@@ -191,7 +191,6 @@ fn takes_no_other_words(rt: HostRuntime) -> Result<(), Fail> {
         &["run", "--stack=1048576", "t.s"],
         &["run", "t.s", "t.s"],
         &["plain", "t.s"],
-        &["post", "t.s"],
         &["gen", "--number", "7"],
     ];
     for list in lists {
