@@ -12,3 +12,4 @@ pub mod Puts
 pub mod Loading
 pub mod Hands
 pub mod Leases
+pub mod Trying

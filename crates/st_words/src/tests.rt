@@ -1,10 +1,11 @@
 //! Each step once, with the words that it leaves: over the words alone, where the numbers come from the table of words in docs/board.md, and
 //! the draws over a board.
-ghost use Rattle.std.specs.Prelude.{◌≡◌, length, IfOk};
+ghost use Rattle.std.specs.Prelude.{◌≡◌, ◌<◌, ◌∷◌, [], length, IfOk};
 ghost use Rattle.st_words.specs.Encodings.{counter_word, count_after, count_in};
 ghost use Rattle.st_words.specs.Laws.{named, progress_of};
+ghost use Rattle.st_words.specs.Plain.{view_at, first_view};
 ghost use Rattle.st_words.specs.Sizes.{SizedWords};
-ghost use Rattle.st_words.specs.Views.{no_load};
+ghost use Rattle.st_words.specs.Views.{no_load, no_known, with_free};
 
 use crate::board::{Board, Next};
 use crate::plain::PlainBoard;
@@ -21,6 +22,16 @@ struct Plainly;
 
 impl Next for Plainly {
     ghost after = { λ v s a. named (progress_of v) v s a };
+
+    ghost load = { λ _ _ _. no_load };
+}
+
+/// Names the view after a step of a worker that has come to hold the root's thread, a chain in its turn and an exported frame, whose return
+/// word is the second word of its stack.
+struct Busy;
+
+impl Next for Busy {
+    ghost after = { λ v s a. named (record { threads = no_known ∷ []; items = 0; frame_bytes = 0 }) (with_free (record { progress = record { threads = no_known ∷ []; items = 0; frame_bytes = 0 }; chains = no_load.carried ∷ []; names = []; exported = record { low = 0x8000_0000; base = 0x8000_0010 } ∷ [] }) v) s a };
 
     ghost load = { λ _ _ _. no_load };
 }
@@ -65,6 +76,26 @@ fn chain(cell: u32) -> Chain {
         },
         wait: Waiting::Ready,
     }
+}
+
+/// A board of two workers with these limits.
+fn fresh(alloc: Global, limits: &Limits) -> Result<PlainBoard, AllocError>
+    ensures view { IfOk result (λ board. view_at board.kept.views 0 ≡ first_view limits.now 2 0) }
+    ensures serves { IfOk result (λ board. 0 < length board.kept.views) }
+{
+    PlainBoard::open::<Brand>(alloc, limits, 2)
+}
+
+#[test]
+fn a_board_steps_on_a_stack(rt: HostRuntime) -> Result<(), Fail> {
+    let limits = small();
+    let mut board = fresh(rt.alloc(), &limits)?;
+    board.stack_store::<Busy>(0, 1, 9);
+    assert_eq!(rt; board.stack_load::<Busy>(0, 1), 9);
+    board.mark::<Busy>(0, 1);
+    assert_eq!(rt; board.look::<Busy>(0, 1), 0);
+    assert_eq!(rt; board.words.stack.as_slice().get(1), Some(&0));
+    Ok(())
 }
 
 #[test]
@@ -122,6 +153,8 @@ fn a_state_is_changed_from_what_was_found(rt: HostRuntime) -> Result<(), Fail> {
     let mut words = opened(rt.alloc())?;
     assert_eq!(rt; words.cell_change(5, 0, 3), Ok(()));
     assert_eq!(rt; words.cell_change(5, 0, 9), Err(3));
+    assert_eq!(rt; words.cell_change(5, 3, 4_294_967_296), Ok(()));
+    assert_eq!(rt; words.cell_load(5, CellWord::State), 4_294_967_296);
     assert_eq!(rt; words.cell_change(6, 0, counted()), Ok(()));
     assert_eq!(rt; words.cell_load(6, CellWord::State), 131_072);
     Ok(())
