@@ -30,6 +30,13 @@ impl Path {
         }
     }
 
+    /// The path of these numbers; it takes no memory.
+    pub fn from_vec(numbers: Vec<u32>) -> Path
+        ensures { result ≡ numbers.items }
+    {
+        Path { numbers }
+    }
+
     pub fn numbers(&self) -> &[u32]
         ensures { result.now ≡ self.now }
     {
