@@ -1,5 +1,6 @@
 -- The instruction at the pc: its immediate is bounded (bounded_some), and it is the one of which a step speaks (must_fetch, may_move, stepped).
-use Rattle.std.proofs.Common.{◌≡◌, ℕ, ◌+◌, ◌*◌, ◌≤◌, ◌^◌, sym, subst, arith, Bool, true, false, List, [], ◌∷◌, Option, Some, None, IfSome, inl, inr, ℤ, pos, neg_ℤ, ◌-ℤ◌, ◌≤ℤ◌, cond, nat_lt, get_or, slice_get}
+-- The immediate of an instruction that fits the table is bounded too (fits_bounded), and its word is below 2 ^ 64 (fits_word).
+use Rattle.std.proofs.Common.{◌≡◌, ℕ, ◌+◌, ◌*◌, ◌<◌, ◌≤◌, ◌^◌, sym, subst, arith, Bool, true, false, List, [], ◌∷◌, Option, Some, None, IfSome, inl, inr, ℤ, pos, neg_ℤ, ◌-ℤ◌, ◌≤ℤ◌, cond, nat_lt, get_or, slice_get}
 use Rattle.std.proofs.lemmas.Int.{ints}
 use Rattle.std.proofs.lemmas.Option.{get_or_from_slice_get}
 use Rattle.st_base.specs.declared.image.Image.{Image}
@@ -8,8 +9,9 @@ use Rattle.st_rv.specs.declared.rows.Row.{Row}
 use Rattle.st_rv.specs.declared.rows.Form.{Form}
 use Rattle.st_rv.specs.declared.rows.Form.TheVariants.{R, I, Shift6, Shift5, S, B, U, J, Fixed}
 use Rattle.st_rv.specs.declared.rows.TheConstants.{ROWS}
-use Rattle.st_rv.specs.Fields.{immediate, field}
-use Rattle.st_rv.specs.Rows.{IsRow, GivesRow, SomeRow}
+use Rattle.st_rv.specs.Fields.{immediate, field, FitsForm}
+use Rattle.st_rv.specs.Results.{word_of}
+use Rattle.st_rv.specs.Rows.{IsRow, GivesRow, FitsRow, FitsTable, SomeRow}
 use Rattle.st_model.specs.Memory.{Data}
 use Rattle.st_words.specs.declared.view.View.{View}
 use Rattle.st_words.specs.Steps.{Step, Answer}
@@ -17,6 +19,7 @@ use Rattle.st_step.specs.declared.state.State.{State}
 use Rattle.st_step.specs.declared.machine.StepEnd.{StepEnd}
 use Rattle.st_step.specs.Moves.{Move, Fetches, MayStep, MayMove, Moves, Stepped, move_of, is_entry}
 use Rattle.st_step.specs.Acts.{IsBounded}
+use Rattle.st_step.proofs.ResultBounds.{word_small}
 
 -- a number in two's complement is no less than minus its range
 extended_bounded : (b : Bool) (n half : ℕ) → half ≤ 2 ^ 20 → neg_ℤ (pos (2 ^ 31)) ≤ℤ (cond b (pos n) (pos n -ℤ pos (2 * half)))
@@ -41,6 +44,41 @@ rows_bounded (r ∷ rows) i w row = elim row [ inl gives ↦ subst (λ (z : ℤ)
 row_bounded : (i : Ins) (w : ℕ) → IsRow i w → IsBounded i
 unfolding IsRow
 row_bounded i w row = rows_bounded ROWS i w row
+
+form_bounded : (f : Form) (i : Ins) → FitsForm f i → IsBounded i
+form_bounded R i fits = let e = fits in omega (arith, ints)
+form_bounded I i fits = let e = fits.0.0 in omega (arith, ints)
+form_bounded Shift6 i fits = let e = fits.0.0 in omega (arith, ints)
+form_bounded Shift5 i fits = let e = fits.0.0 in omega (arith, ints)
+form_bounded S i fits = let e = fits.0.0 in omega (arith, ints)
+form_bounded B i fits = let e = fits.0.0 in omega (arith, ints)
+form_bounded U i fits = let e = fits.0.0 in omega (arith, ints)
+form_bounded J i fits = let e = fits.0.0 in omega (arith, ints)
+form_bounded Fixed i fits = let e = fits.0 in omega (arith, ints)
+
+form_word : (f : Form) (i : Ins) → FitsForm f i → word_of i.imm < 2 ^ 64
+form_word R i fits = let e = fits in word_small i.imm (omega (arith, ints))
+form_word I i fits = let e = fits.0.1 in word_small i.imm (omega (arith, ints))
+form_word Shift6 i fits = let e = fits.0.1 in word_small i.imm (omega (arith, ints))
+form_word Shift5 i fits = let e = fits.0.1 in word_small i.imm (omega (arith, ints))
+form_word S i fits = let e = fits.0.1 in word_small i.imm (omega (arith, ints))
+form_word B i fits = let e = fits.0.1 in word_small i.imm (omega (arith, ints))
+form_word U i fits = let e = fits.0.1 in word_small i.imm (omega (arith, ints))
+form_word J i fits = let e = fits.0.1 in word_small i.imm (omega (arith, ints))
+form_word Fixed i fits = let e = fits.0 in word_small i.imm (omega (arith, ints))
+
+-- what follows from each form follows from the table
+by_form : (P : Type 0) (rows : List Row) (i : Ins) → ((f : Form) → FitsForm f i → P) → SomeRow (FitsRow i) rows → P
+by_form P [] i each row = absurd row
+by_form P (r ∷ rows) i each row = elim row [ inl fits ↦ each r.form fits.form | inr later ↦ by_form P rows i each later ]
+
+pub fits_bounded : (i : Ins) → FitsTable i → IsBounded i
+unfolding FitsTable
+fits_bounded i fits = by_form (IsBounded i) ROWS i (λ f. form_bounded f i) fits
+
+pub fits_word : (i : Ins) → FitsTable i → word_of i.imm < 2 ^ 64
+unfolding FitsTable
+fits_word i fits = by_form (word_of i.imm < 2 ^ 64) ROWS i (λ f. form_word f i) fits
 
 pub bounded_some : (w : ℕ) (r : Option Ins) → IfSome r (λ i. IsRow i w) → IfSome r (λ i. IsBounded i)
 bounded_some w None h = h

@@ -1,6 +1,6 @@
 -- The words of `li` give its value (li_law): the high part and the low one make it, modulo 2 ^ 32 (parts_make), and its low 32 bits give
 -- all of it (value_of_low).
-use Rattle.std.proofs.Common.{◌≡◌, ◌⊎◌, ℕ, zero, suc, ◌+◌, ◌-◌, ◌*◌, ◌/◌, ◌%◌, ◌^◌, ◌<◌, ◌≤◌, ℤ, pos, negsuc, ◌-ℤ◌, ◌<ℤ◌, int_lt, Bool, true, false, not, cond, ◌&&◌, ◌==◌, List, [], ◌∷◌, length, Option, Some, refl, ap, sym, ◌∙◌, arith, inl, inr, nat_lt, slice_set, if◌then◌else◌, FitsSigned}
+use Rattle.std.proofs.Common.{◌≡◌, ◌⊎◌, ℕ, zero, suc, ◌+◌, ◌-◌, ◌*◌, ◌/◌, ◌%◌, ◌^◌, ◌<◌, ◌≤◌, ℤ, pos, negsuc, ◌-ℤ◌, int_lt, Bool, true, false, not, cond, ◌&&◌, ◌==◌, List, [], ◌∷◌, length, Option, Some, refl, ap, sym, ◌∙◌, arith, inl, inr, nat_lt, slice_set, if◌then◌else◌, FitsSigned}
 use Rattle.std.proofs.lemmas.Bool.{ltb-true, ltb-false, lt-ltb}
 use Rattle.std.proofs.Math.Bool.{and-false}
 use Rattle.std.proofs.Math.Nat.{mod-eq_of_lt}
@@ -21,14 +21,11 @@ use Rattle.st_model.specs.Layout.{immediate_ins, upper_ins, addi, below, is_shor
 use Rattle.st_step.specs.declared.state.State.{State}
 use Rattle.st_step.specs.Moves.{makes_frame, register, written, at_place}
 use Rattle.st_step.specs.Runs.{Situation, HasRegisters, ran, HasCode, RunsLi}
+use Rattle.st_step.proofs.ResultBounds.{word_small}
 use Rattle.st_step.proofs.Writes.{written-at_place, written-written, register-written_same}
 use Rattle.st_step.proofs.Straight.{plain_code, step, stays, after, adds, uppers, low_adds}
 
 -- ---- numbers
-
-word_small : (z : ℤ) → z <ℤ pos (2 ^ 31) → word_of z < 2 ^ 64
-word_small (pos n) less = omega (arith, ints)
-word_small (negsuc n) less = omega arith
 
 -- the low 32 bits of a value's word are its 32 bits
 low_bits : (z : ℤ) → IsWordValue z → word_of z % 2 ^ 32 ≡ cast_unsigned w32 z
@@ -103,8 +100,8 @@ high_makes z is none =
 
 -- ---- runs
 
-abbrev Gives : Data → (ℕ → Option Ins) → Situation → Reg → ℤ → List PostedIns → Type 0
-Gives d code s rd value is = ran d code (length is) s ≡ Some (record { state = at_place (s.state.pc + 4 * length is) (written s.state rd (word_of value)); word = s.word })
+abbrev Gives : Data → (ℕ → Option Ins) → (ℕ → Bool) → Situation → Reg → ℤ → List PostedIns → Type 0
+Gives d code held s rd value is = ran d code held (length is) s ≡ Some (record { state = at_place (s.state.pc + 4 * length is) (written s.state rd (word_of value)); word = s.word })
 
 no_frame : (r : Reg) (imm : ℤ) → makes_frame (immediate_ins ops.Addi r registers.Zero imm) ≡ false
 no_frame r imm = ap (λ (b : Bool). b && int_lt imm (pos 0)) (and-false (reg_number r == 2))
@@ -112,13 +109,13 @@ no_frame r imm = ap (λ (b : Bool). b && int_lt imm (pos 0)) (and-false (reg_num
 zero_sum : (n : ℕ) → n < 2 ^ 64 → (0 + n) % 2 ^ 64 ≡ n
 zero_sum n small = omega arith
 
-short_runs : (d : Data) (code : ℕ → Option Ins) (s : Situation) (at : ℕ) (rd : Reg) (value : ℤ) → HasRegisters s.state → IsWordValue value → HasCode code s.state.pc at (addi rd registers.Zero value ∷ []) → s.state.pc + 4 < 2 ^ 32 → Gives d code s rd value (addi rd registers.Zero value ∷ [])
-short_runs d code s at rd value has_registers is has low =
+short_runs : (d : Data) (code : ℕ → Option Ins) (held : ℕ → Bool) (s : Situation) (at : ℕ) (rd : Reg) (value : ℤ) → HasRegisters s.state → IsWordValue value → HasCode code s.state.pc at (addi rd registers.Zero value ∷ []) → s.state.pc + 4 < 2 ^ 32 → Gives d code held s rd value (addi rd registers.Zero value ∷ [])
+short_runs d code held s at rd value has_registers is has low =
     let small = word_small value is.1 in
-    step d code s (after s rd (word_of value)) _ _ 0 1 refl
+    step d code held s (after s rd (word_of value)) _ _ 0 1 refl
     (plain_code code s.state.pc _ has.0)
-    (adds d s rd registers.Zero value (word_of value) (no_frame rd value) (ap (λ (n : ℕ). (n + word_of value) % 2 ^ 64) has_registers.origin ∙ zero_sum (word_of value) small) low)
-    (stays d code (after s rd (word_of value)))
+    (adds d held s rd registers.Zero value (word_of value) (no_frame rd value) (ap (λ (n : ℕ). (n + word_of value) % 2 ^ 64) has_registers.origin ∙ zero_sum (word_of value) small) low)
+    (stays d code held (after s rd (word_of value)))
 
 -- a number that is not written matters not
 put_same : (b : Bool) (m : State) (k x y : ℕ) → (b ≡ false → x ≡ y) → (if b then m else record m { registers = slice_set m.registers k x }) ≡ (if b then m else record m { registers = slice_set m.registers k y })
@@ -145,34 +142,34 @@ two_written s rd value has_registers is =
     ∙ ap (at_place (s.state.pc + 4 + 4)) (written-written s.state rd x v ∙ written_same s.state rd v (word_of value) same)
     ∙ ap (λ (k : ℕ). at_place k (written s.state rd (word_of value))) pc)
 
-long_runs : (d : Data) (code : ℕ → Option Ins) (s : Situation) (at : ℕ) (rd : Reg) (value : ℤ) (b : Bool) → (b ≡ true → low_part value ≡ pos 0) → HasRegisters s.state → IsWordValue value
+long_runs : (d : Data) (code : ℕ → Option Ins) (held : ℕ → Bool) (s : Situation) (at : ℕ) (rd : Reg) (value : ℤ) (b : Bool) → (b ≡ true → low_part value ≡ pos 0) → HasRegisters s.state → IsWordValue value
     → HasCode code s.state.pc at (posted.Plain (upper_ins ops.Lui rd (pos (high_part value))) ∷ (if b then [] else posted.Plain (immediate_ins ops.Addiw rd rd (low_part value)) ∷ []))
     → s.state.pc + 4 * length (posted.Plain (upper_ins ops.Lui rd (pos (high_part value))) ∷ (if b then [] else posted.Plain (immediate_ins ops.Addiw rd rd (low_part value)) ∷ [])) < 2 ^ 32
-    → Gives d code s rd value (posted.Plain (upper_ins ops.Lui rd (pos (high_part value))) ∷ (if b then [] else posted.Plain (immediate_ins ops.Addiw rd rd (low_part value)) ∷ []))
+    → Gives d code held s rd value (posted.Plain (upper_ins ops.Lui rd (pos (high_part value))) ∷ (if b then [] else posted.Plain (immediate_ins ops.Addiw rd rd (low_part value)) ∷ []))
 unfolding alu
-long_runs d code s at rd value true none has_registers is has low =
-    step d code s (after s rd (word_of value)) _ _ 0 1 refl
+long_runs d code held s at rd value true none has_registers is has low =
+    step d code held s (after s rd (word_of value)) _ _ 0 1 refl
     (plain_code code s.state.pc _ has.0)
-    (uppers d s rd (pos (high_part value)) (word_of value) (high_makes value is (none refl)) low)
-    (stays d code (after s rd (word_of value)))
-long_runs d code s at rd value false none has_registers is has low =
+    (uppers d held s rd (pos (high_part value)) (word_of value) (high_makes value is (none refl)) low)
+    (stays d code held (after s rd (word_of value)))
+long_runs d code held s at rd value false none has_registers is has low =
     let x = upper (high_part value) in
     let t = after s rd x in
     let one : s.state.pc + 4 < 2 ^ 32 = omega arith in
     let two : s.state.pc + 4 + 4 < 2 ^ 32 = omega arith in
-    step d code s t _ _ 1 2 refl
+    step d code held s t _ _ 1 2 refl
     (plain_code code s.state.pc _ has.0)
-    (uppers d s rd (pos (high_part value)) x refl one)
-    (step d code t _ _ _ 0 1 refl
+    (uppers d held s rd (pos (high_part value)) x refl one)
+    (step d code held t _ _ _ 0 1 refl
     (plain_code code (s.state.pc + 4) _ has.1.0)
-    (low_adds d t rd rd (low_part value) (sum_low (register t.state rd) (word_of (low_part value))) refl two)
-    (stays d code _ ∙ ap (λ (u : Situation). Some u) (two_written s rd value has_registers is)))
+    (low_adds d held t rd rd (low_part value) (sum_low (register t.state rd) (word_of (low_part value))) refl two)
+    (stays d code held _ ∙ ap (λ (u : Situation). Some u) (two_written s rd value has_registers is)))
 
 pub li_law : RunsLi
-li_law d code s at rd value has_registers is has stretch = go (is_short value) has stretch.below
+li_law d code held s at rd value has_registers is has stretch = go (is_short value) has stretch.below
   where
     go : (b : Bool) → HasCode code s.state.pc at (if b then addi rd registers.Zero value ∷ [] else posted.Plain (upper_ins ops.Lui rd (pos (high_part value))) ∷ with_low_part rd (low_part value))
         → s.state.pc + 4 * length (if b then addi rd registers.Zero value ∷ [] else posted.Plain (upper_ins ops.Lui rd (pos (high_part value))) ∷ with_low_part rd (low_part value)) < 2 ^ 32
-        → Gives d code s rd value (if b then addi rd registers.Zero value ∷ [] else posted.Plain (upper_ins ops.Lui rd (pos (high_part value))) ∷ with_low_part rd (low_part value))
-    go true code_is below = short_runs d code s at rd value has_registers is code_is below
-    go false code_is below = long_runs d code s at rd value (not (int_lt (low_part value) (pos 0)) && not (int_lt (pos 0) (low_part value))) (is_zero (low_part value)) has_registers is code_is below
+        → Gives d code held s rd value (if b then addi rd registers.Zero value ∷ [] else posted.Plain (upper_ins ops.Lui rd (pos (high_part value))) ∷ with_low_part rd (low_part value))
+    go true code_is below = short_runs d code held s at rd value has_registers is code_is below
+    go false code_is below = long_runs d code held s at rd value (not (int_lt (low_part value) (pos 0)) && not (int_lt (pos 0) (low_part value))) (is_zero (low_part value)) has_registers is code_is below

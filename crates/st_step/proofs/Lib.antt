@@ -1,4 +1,5 @@
 pub mod WordParts
+pub mod ResultBounds
 pub mod Fetching
 pub mod Writes
 pub mod Straight
@@ -8,3 +9,4 @@ pub mod Prologues
 pub mod Restoring
 pub mod Freeing
 pub mod Epilogues
+pub mod Steps

@@ -1,5 +1,5 @@
 -- The saved registers of a function: each has a number above that of s0, so that it is none of zero, ra, sp, gp, tp and s0 (saved_above),
--- and the frame has room for them (saved_fit).
+-- they are at most as many as the bits that are set (saved_counted), and the frame has room for them (saved_fit).
 use Rattle.std.proofs.Common.{◌≡◌, ℕ, ◌+◌, ◌*◌, ◌/◌, ◌^◌, ◌<◌, ◌≤◌, Bool, true, false, ◌==◌, List, [], ◌∷◌, length, refl, ap, sym, ◌∙◌, subst, arith, count_ones, if◌then◌else◌}
 use Rattle.std.proofs.lemmas.Bool.{eqb-true}
 use Rattle.std.specs.Int.{bit_at}
@@ -42,11 +42,15 @@ few_among bits k (r ∷ rs) =
     let rest = subst (λ (n : ℕ). length (saved_among bits (k + 1) rs) ≤ count_ones n) half (few_among bits (k + 1) rs) in
     few_when (bit_at bits k == 1) r (saved_among bits (k + 1) rs) (bit_at bits k) (count_ones (bits / 2 ^ k / 2)) (count_ones (bits / 2 ^ k)) (eqb-true (bit_at bits k) 1) (ones_step (bits / 2 ^ k)) rest
 
+-- no more registers are saved than bits are set
+pub saved_counted : (function : ProgramFunction) → length (saved_of function) ≤ count_ones function.saved
+saved_counted function = subst (λ (n : ℕ). length (saved_of function) ≤ count_ones n) (div-one function.saved) (few_among function.saved 0 saveable)
+
 fits : (n ones slots bytes : ℕ) → n ≤ ones → 16 + 8 * ones + 8 * slots ≤ bytes → 16 + 8 * n ≤ bytes
 fits n ones slots bytes few room = omega arith
 
 pub saved_fit : (function : ProgramFunction) → HasFrame function → 16 + 8 * length (saved_of function) ≤ function.frame_bytes
 saved_fit function has =
     fits (length (saved_of function)) (count_ones function.saved) function.slots function.frame_bytes
-    (subst (λ (n : ℕ). length (saved_of function) ≤ count_ones n) (div-one function.saved) (few_among function.saved 0 saveable))
+    (saved_counted function)
     has.room

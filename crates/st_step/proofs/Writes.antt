@@ -1,13 +1,15 @@
 -- Writes to the registers of the machine: what a register has after a write (register-written_same, register-written_other), that a write
--- and a jump may be exchanged (written-at_place), writes to one register (written-written) and to two (written-apart), and that a register
--- which isn't 0 is there (register-within).
-use Rattle.std.proofs.Common.{nat_lt, ◌≤◌, ◌≡◌, ◌≢◌, ℕ, ◌<◌, Bool, true, false, ◌==◌, length, refl, ap, ◌∙◌, arith, List, slice_set, slice_index, if◌then◌else◌}
-use Rattle.std.proofs.lemmas.List.{length-set, get_or-set_same, get_or-set_other, set-set, set_comm, get_or_past}
-use Rattle.std.proofs.lemmas.Bool.{ltb-true, ltb-false}
+-- and a jump may be exchanged (written-at_place), writes to one register (written-written) and to two (written-apart), that a register
+-- which isn't 0 is there (register-within), that zero stays (zero-written), and that registers stay below 2 ^ 64 (values-written).
+use Rattle.std.proofs.Common.{nat_lt, ◌≤◌, ◌≡◌, ◌≢◌, ℕ, ◌<◌, Bool, true, false, ◌==◌, length, refl, ap, sym, ◌^◌, ◌∙◌, arith, List, slice_set, slice_index, if◌then◌else◌}
+use Rattle.std.proofs.lemmas.List.{length-set, get_or-set_same, get_or-set_other, set-set, set_comm, set_past, get_or_past}
+use Rattle.std.proofs.lemmas.Bool.{eqb-false, ltb-true, ltb-false}
 use Rattle.st_base.specs.declared.reg.Reg.{Reg}
+use Rattle.st_base.specs.declared.reg.Reg.TheVariants as registers
 use Rattle.st_base.specs.Reg.{reg_number}
 use Rattle.st_step.specs.declared.state.State.{State}
 use Rattle.st_step.specs.Moves.{register, written, at_place}
+use Rattle.st_step.specs.Runs.{AreValues}
 
 -- a write to the k-th register, unless it is zero
 abbrev put : Bool → State → ℕ → ℕ → State
@@ -39,6 +41,22 @@ put-hi : (b : Bool) (k n : ℕ) (m : State) → (put b m k n).hi ≡ m.hi
 put-hi true k n m = refl
 put-hi false k n m = refl
 
+put-pc : (b : Bool) (k n : ℕ) (m : State) → (put b m k n).pc ≡ m.pc
+put-pc true k n m = refl
+put-pc false k n m = refl
+
+put-zero : (b : Bool) (k n : ℕ) (m : State) → (b ≡ false → k ≢ 0) → slice_index (put b m k n).registers 0 ≡ slice_index m.registers 0
+put-zero true k n m other = refl
+put-zero false k n m other = get_or-set_other m.registers k 0 n 0 (λ e. other refl (sym e))
+
+-- a list with another number at a place has that number or its own at each
+set_below : (l : List ℕ) (k n x : ℕ) → slice_index l x < 2 ^ 64 → n < 2 ^ 64 → slice_index (slice_set l k n) x < 2 ^ 64
+set_below l k n x own less = grind (arith, get_or-set_same, get_or-set_other, set_past)
+
+put-values : (b : Bool) (k n : ℕ) (m : State) → AreValues m → n < 2 ^ 64 → AreValues (put b m k n)
+put-values true k n m values less = values
+put-values false k n m values less = λ x. set_below m.registers k n x (values x) less
+
 put-other : (b : Bool) (j k n : ℕ) (m : State) → j ≢ k → slice_index (put b m k n).registers j ≡ slice_index m.registers j
 put-other true j k n m other = refl
 put-other false j k n m other = get_or-set_other m.registers k j n 0 other
@@ -64,6 +82,15 @@ lo-written m r n = put-lo (reg_number r == 0) (reg_number r) n m
 
 pub hi-written : (m : State) (r : Reg) (n : ℕ) → (written m r n).hi ≡ m.hi
 hi-written m r n = put-hi (reg_number r == 0) (reg_number r) n m
+
+pub pc-written : (m : State) (r : Reg) (n : ℕ) → (written m r n).pc ≡ m.pc
+pc-written m r n = put-pc (reg_number r == 0) (reg_number r) n m
+
+pub zero-written : (m : State) (r : Reg) (n : ℕ) → register (written m r n) registers.Zero ≡ register m registers.Zero
+zero-written m r n = put-zero (reg_number r == 0) (reg_number r) n m (eqb-false (reg_number r) 0)
+
+pub values-written : (m : State) (r : Reg) (n : ℕ) → AreValues m → n < 2 ^ 64 → AreValues (written m r n)
+values-written m r n values less = put-values (reg_number r == 0) (reg_number r) n m values less
 
 pub register-written_other : (m : State) (r q : Reg) (n : ℕ) → reg_number q ≢ reg_number r → register (written m r n) q ≡ register m q
 register-written_other m r q n other = put-other (reg_number r == 0) (reg_number q) (reg_number r) n m other

@@ -1,8 +1,8 @@
 -- What stretches of laid out code do on the machine with its stack words: a prologue, an epilogue as written, an augmented epilogue, a pure
--- copy, and `li`. Read ran (so many instructions, from the pc on), HasCode (the code at an address), and the laws: RunsPrologue,
--- RunsEpilogue, RunsPureCopy, RunsAugmented, RunsLi. A frame has its base b at the value of sp before its prologue: the return address stands
--- at b - 8, the caller's s0 at b - 16, the k-th saved register at b - 24 - 8k.
-use Rattle.std.specs.Prelude.{◌≡◌, ◌⊎◌, ℕ, zero, suc, ◌+◌, ◌*◌, ◌-◌, ◌%◌, ◌^◌, ◌<◌, ◌≤◌, ℤ, ◌==◌, List, [], ◌∷◌, length, Option, Some, None, option_and_then, if◌then◌else◌}
+-- copy, and `li`. Read ran (so many instructions, from the pc on, which speak of held words alone), HasCode (the code at an address), and
+-- the laws: RunsPrologue, RunsEpilogue, RunsPureCopy, RunsAugmented, RunsLi. A frame has its base b at the value of sp before its prologue:
+-- the return address stands at b - 8, the caller's s0 at b - 16, the k-th saved register at b - 24 - 8k.
+use Rattle.std.specs.Prelude.{Bool, true, false, ◌≡◌, ◌⊎◌, ℕ, zero, suc, ◌+◌, ◌*◌, ◌-◌, ◌%◌, ◌^◌, ◌<◌, ◌≤◌, ℤ, ◌==◌, List, [], ◌∷◌, length, Option, Some, None, option_and_then, slice_index, if◌then◌else◌}
 use Rattle.st_base.specs.declared.reg.Reg.{Reg}
 use Rattle.st_base.specs.declared.reg.Reg.TheVariants as registers
 use Rattle.st_rv.specs.declared.ins.Ins.{Ins}
@@ -33,26 +33,35 @@ pub record HasRegisters (m : State) : Type 0 where
 abbrev pub AreWords : (ℕ → ℕ) → Type 0
 AreWords word = (q : ℕ) → word q < 2 ^ 64
 
+-- each register is below 2 ^ 64
+abbrev pub AreValues : State → Type 0
+AreValues m = (x : ℕ) → slice_index m.registers x < 2 ^ 64
+
 abbrev pub stored : ℕ → ℕ → (ℕ → ℕ) → ℕ → ℕ
 stored p n word q = if q == p then n else word q
 
--- after a move; none where it stops
-abbrev pub moved : Situation → Move → Option Situation
-moved s (Goes m) = Some (record { state = m; word = s.word })
-moved s (Reads p go) = Some (record { state = go (s.word p); word = s.word })
-moved s (Writes p n m) = Some (record { state = m; word = stored p n s.word })
-moved s (Marks p m) = Some (record { state = m; word = stored p 0 s.word })
-moved s (Stops end) = None
-moved s Outside = None
+-- a word that isn't held is not spoken of
+abbrev pub where_held : Bool → Situation → Option Situation
+where_held true s = Some s
+where_held false s = None
 
-abbrev pub moved_by : Data → Situation → Option Ins → Option Situation
-moved_by d s None = None
-moved_by d s (Some i) = moved s (move_of d s.state i)
+-- after a move, where the words of these places are held; none where it stops, or speaks of a word that isn't held
+abbrev pub moved : (ℕ → Bool) → Situation → Move → Option Situation
+moved held s (Goes m) = Some (record { state = m; word = s.word })
+moved held s (Reads p go) = where_held (held p) (record { state = go (s.word p); word = s.word })
+moved held s (Writes p n m) = where_held (held p) (record { state = m; word = stored p n s.word })
+moved held s (Marks p m) = where_held (held p) (record { state = m; word = stored p 0 s.word })
+moved held s (Stops end) = None
+moved held s Outside = None
 
--- so many instructions, each the one at the pc
-unfoldable pub ran : Data → (ℕ → Option Ins) → ℕ → Situation → Option Situation
-ran d code zero s = Some s
-ran d code (suc n) s = option_and_then (ran d code n) (moved_by d s (code s.state.pc))
+abbrev pub moved_by : Data → (ℕ → Bool) → Situation → Option Ins → Option Situation
+moved_by d held s None = None
+moved_by d held s (Some i) = moved held s (move_of d s.state i)
+
+-- so many instructions, each the one at the pc, of which each speaks of held words alone
+unfoldable pub ran : Data → (ℕ → Option Ins) → (ℕ → Bool) → ℕ → Situation → Option Situation
+ran d code held zero s = Some s
+ran d code held (suc n) s = option_and_then (ran d code held n) (moved_by d held s (code s.state.pc))
 
 -- the instruction of a word that names no function and no entry, the word `at` of its function
 abbrev pub local_ins : ℕ → PostedIns → Option Ins
@@ -73,6 +82,10 @@ pub record IsBase (lo bytes b : ℕ) : Type 0 where
   pub stack : 0x8000_0000 ≤ lo
   pub room : lo + bytes ≤ b
   pub high : b < 0x8000_0000 + 2 ^ 32
+
+-- all words of the frame of so many bytes with this base are held
+abbrev pub HoldsFrame : (ℕ → Bool) → ℕ → ℕ → Type 0
+HoldsFrame held bytes b = (q : ℕ) → place_of (b - bytes) ≤ q → q < place_of b → held q ≡ true
 
 -- a stretch of so many instructions from an address lies below 2 ^ 32
 pub record IsStretch (pc count : ℕ) : Type 0 where
@@ -114,21 +127,21 @@ with_caller word b saved m = written (restored word b 0 saved (written m registe
 
 -- a prologue makes a frame at sp and leaves s0 at its base
 abbrev pub RunsPrologue : Type 0
-RunsPrologue = (d : Data) (code : ℕ → Option Ins) (function : ProgramFunction) (s : Situation) (at : ℕ) → HasFrame function → HasCode code s.state.pc at (prologue_ins function.frame_bytes (saved_of function)) → IsBase s.state.lo function.frame_bytes (register s.state registers.Sp) → IsStretch s.state.pc (4 + length (saved_of function)) → ran d code (4 + length (saved_of function)) s ≡ Some (record {
+RunsPrologue = (d : Data) (code : ℕ → Option Ins) (held : ℕ → Bool) (function : ProgramFunction) (s : Situation) (at : ℕ) → HasFrame function → HasCode code s.state.pc at (prologue_ins function.frame_bytes (saved_of function)) → IsBase s.state.lo function.frame_bytes (register s.state registers.Sp) → HoldsFrame held function.frame_bytes (register s.state registers.Sp) → IsStretch s.state.pc (4 + length (saved_of function)) → ran d code held (4 + length (saved_of function)) s ≡ Some (record {
   state = at_place (s.state.pc + 4 * (4 + length (saved_of function))) (written (written s.state registers.Sp (register s.state registers.Sp - function.frame_bytes)) registers.S0 (register s.state registers.Sp));
   word = with_frame s.state (register s.state registers.Sp) (saved_of function) s.word;
 })
 
 -- an epilogue as written gives the caller's registers, frees the frame, whose base is b, and returns
 abbrev pub RunsEpilogue : Type 0
-RunsEpilogue = (d : Data) (code : ℕ → Option Ins) (function : ProgramFunction) (s : Situation) (at b : ℕ) → AreWords s.word → HasFrame function → HasCode code s.state.pc at (epilogue_ins function.frame_bytes (saved_of function)) → IsBase s.state.lo function.frame_bytes b → register s.state registers.Sp ≡ b - function.frame_bytes → IsReturn (s.word (return_word b)) → IsStretch s.state.pc (4 + length (saved_of function)) → ran d code (4 + length (saved_of function)) s ≡ Some (record {
+RunsEpilogue = (d : Data) (code : ℕ → Option Ins) (held : ℕ → Bool) (function : ProgramFunction) (s : Situation) (at b : ℕ) → AreWords s.word → HasFrame function → HasCode code s.state.pc at (epilogue_ins function.frame_bytes (saved_of function)) → IsBase s.state.lo function.frame_bytes b → HoldsFrame held function.frame_bytes b → register s.state registers.Sp ≡ b - function.frame_bytes → IsReturn (s.word (return_word b)) → IsStretch s.state.pc (4 + length (saved_of function)) → ran d code held (4 + length (saved_of function)) s ≡ Some (record {
   state = at_place (s.word (return_word b)) (written (with_caller s.word b (saved_of function) s.state) registers.Sp b);
   word = s.word;
 })
 
 -- a pure copy gives the caller's registers from the frame whose base is s0, leaves sp, changes no word, and returns; tp has the base
 abbrev pub RunsPureCopy : Type 0
-RunsPureCopy = (d : Data) (code : ℕ → Option Ins) (function : ProgramFunction) (s : Situation) (at : ℕ) → AreWords s.word → HasFrame function → HasCode code s.state.pc at (pure_copy_ins (saved_of function)) → IsBase s.state.lo function.frame_bytes (register s.state registers.S0) → IsReturn (s.word (return_word (register s.state registers.S0))) → IsStretch s.state.pc (4 + length (saved_of function)) → ran d code (4 + length (saved_of function)) s ≡ Some (record {
+RunsPureCopy = (d : Data) (code : ℕ → Option Ins) (held : ℕ → Bool) (function : ProgramFunction) (s : Situation) (at : ℕ) → AreWords s.word → HasFrame function → HasCode code s.state.pc at (pure_copy_ins (saved_of function)) → IsBase s.state.lo function.frame_bytes (register s.state registers.S0) → HoldsFrame held function.frame_bytes (register s.state registers.S0) → IsReturn (s.word (return_word (register s.state registers.S0))) → IsStretch s.state.pc (4 + length (saved_of function)) → ran d code held (4 + length (saved_of function)) s ≡ Some (record {
   state = at_place (s.word (return_word (register s.state registers.S0))) (with_caller s.word (register s.state registers.S0) (saved_of function) (written s.state registers.Tp (register s.state registers.S0)));
   word = s.word;
 })
@@ -136,14 +149,14 @@ RunsPureCopy = (d : Data) (code : ℕ → Option Ins) (function : ProgramFunctio
 -- an augmented epilogue gives the same registers. Exactly where sp is below the base and the base is at most gp, it sets sp to the base and
 -- changes no word; else it stores 0 to the return word, changes no other word, and leaves sp
 abbrev pub RunsAugmented : Type 0
-RunsAugmented = (d : Data) (code : ℕ → Option Ins) (function : ProgramFunction) (s : Situation) (at : ℕ) → AreWords s.word → HasFrame function → HasCode code s.state.pc at (augmented_ins at (saved_of function)) → IsBase s.state.lo function.frame_bytes (register s.state registers.S0) → IsReturn (s.word (return_word (register s.state registers.S0))) → IsStretch s.state.pc (9 + length (saved_of function)) → (register s.state registers.Sp < register s.state registers.S0 → register s.state registers.S0 ≤ register s.state registers.Gp → ran d code (7 + length (saved_of function)) s ≡ Some (record {
+RunsAugmented = (d : Data) (code : ℕ → Option Ins) (held : ℕ → Bool) (function : ProgramFunction) (s : Situation) (at : ℕ) → AreWords s.word → HasFrame function → HasCode code s.state.pc at (augmented_ins at (saved_of function)) → IsBase s.state.lo function.frame_bytes (register s.state registers.S0) → HoldsFrame held function.frame_bytes (register s.state registers.S0) → IsReturn (s.word (return_word (register s.state registers.S0))) → IsStretch s.state.pc (9 + length (saved_of function)) → (register s.state registers.Sp < register s.state registers.S0 → register s.state registers.S0 ≤ register s.state registers.Gp → ran d code held (7 + length (saved_of function)) s ≡ Some (record {
   state = at_place (s.word (return_word (register s.state registers.S0))) (written (with_caller s.word (register s.state registers.S0) (saved_of function) (written s.state registers.Tp (register s.state registers.S0))) registers.Sp (register s.state registers.S0));
   word = s.word;
-})) × ((register s.state registers.S0 ≤ register s.state registers.Sp) ⊎ (register s.state registers.Gp < register s.state registers.S0) → (count : ℕ) × (ran d code count s ≡ Some (record {
+})) × ((register s.state registers.S0 ≤ register s.state registers.Sp) ⊎ (register s.state registers.Gp < register s.state registers.S0) → (count : ℕ) × (ran d code held count s ≡ Some (record {
   state = at_place (s.word (return_word (register s.state registers.S0))) (with_caller s.word (register s.state registers.S0) (saved_of function) (written s.state registers.Tp (register s.state registers.S0)));
   word = stored (return_word (register s.state registers.S0)) 0 s.word;
 })))
 
 -- the words of `li` give its value
 abbrev pub RunsLi : Type 0
-RunsLi = (d : Data) (code : ℕ → Option Ins) (s : Situation) (at : ℕ) (rd : Reg) (value : ℤ) → HasRegisters s.state → IsWordValue value → HasCode code s.state.pc at (li_ins rd value) → IsStretch s.state.pc (length (li_ins rd value)) → ran d code (length (li_ins rd value)) s ≡ Some (record { state = at_place (s.state.pc + 4 * length (li_ins rd value)) (written s.state rd (word_of value)); word = s.word })
+RunsLi = (d : Data) (code : ℕ → Option Ins) (held : ℕ → Bool) (s : Situation) (at : ℕ) (rd : Reg) (value : ℤ) → HasRegisters s.state → IsWordValue value → HasCode code s.state.pc at (li_ins rd value) → IsStretch s.state.pc (length (li_ins rd value)) → ran d code held (length (li_ins rd value)) s ≡ Some (record { state = at_place (s.state.pc + 4 * length (li_ins rd value)) (written s.state rd (word_of value)); word = s.word })

@@ -1,8 +1,9 @@
-//! One step of the machine: the instruction at the pc is taken from the image, chosen by what it does, and carried out.
-ghost use Rattle.std.specs.Prelude.{◌≡◌, ◌≢◌, ℕ, IfSome, Some};
+//! One step of the machine: the instruction at the pc is taken from the image, chosen by what it does, and carried out. A caller that has
+//! decoded it may have it carried out alone.
+ghost use Rattle.std.specs.Prelude.{◌≡◌, ◌≢◌, ℕ, IfSome, Some, is_some};
 ghost use Rattle.st_rv.specs.declared.ins.Ins.{Ins};
 ghost use Rattle.st_model.specs.Memory.{data_of};
-ghost use Rattle.st_step.specs.Moves.{is_entry, Fetches, MayStep, Stepped};
+ghost use Rattle.st_step.specs.Moves.{is_entry, Fetches, MayMove, MayStep, Moves, Stepped, move_of};
 ghost use Rattle.st_step.specs.Acts.{IsBounded};
 ghost use Rattle.st_words.specs.Steps.{Asks};
 
@@ -55,7 +56,33 @@ impl Machine {
         let Some(i) = fetched(image, pc) else {
             unreachable!()
         };
-        let act = act_of(&self.state, i, image.rodata.as_slice(), input);
+        self.execute::<B, N>(i, image.rodata.as_slice(), input, board, w)
+    }
+
+    /// One instruction, or half of a store of less than eight bytes, that the caller has decoded; it takes no memory.
+    pub fn execute<B: Board, N: Next>(
+        &mut self,
+        i: Ins,
+        rodata: &[u8],
+        input: &[u8],
+        board: &mut B,
+        w: u32,
+    ) -> StepEnd
+        requires serves { B.serves board.old w }
+        requires bounded { IsBounded i }
+        requires may { MayMove (λ s. Asks (B.says board.old w) (B.forward board.old) (B.moves board.old) N.after (B.view board.old w) s) (move_of (data_of rodata.now input.now) self.old.state i) }
+        ensures moved { Moves (B.says board.old w) (B.did board.old w) (N.after (B.view board.old w)) (λ b. B.view b w) board.old self.old.state (move_of (data_of rodata.now input.now) self.old.state i) result self.new.state board.new }
+        ensures serves { B.serves board.new w }
+        ensures others { (other : ℕ) → other ≢ w → B.serves board.old other → B.serves board.new other × (B.view board.new other ≡ B.view board.old other) }
+    {
+        let act = act_of(&self.state, i, rodata, input);
         self.state.carry_out::<B, N>(act, board, w)
+    }
+
+    /// Whether a store of less than eight bytes was begun and not yet made.
+    pub fn is_half_done(&self) -> bool
+        ensures { result ≡ is_some self.now.state.half }
+    {
+        self.state.half.is_some()
     }
 }
