@@ -1,0 +1,20 @@
+use Rattle.std.proofs.Common.{◌+◌, List, drop, subst, sym}
+use Rattle.st_rv.specs.declared.ins.Ins.{Ins}
+use Rattle.std.proofs.Math.Logic.{∥∥₁_elim}
+use Rattle.st_plain.proofs.Decoding.{IsDecoded, decodes, must_decode, all_decoded}
+use Rattle.st_plain.proofs.code.decoded.Goals as goal
+
+-- src/code.rt:37:13
+pub unreachable-requires : goal.unreachable-requires
+unreachable-requires c = ∥∥₁_elim c.requires (λ x y. absurd x) (λ has. must_decode _ _ c.args.words.now c.loop-word.word-index c.decode.result c.loop-word-test.true c.decode.ensures.only (c.loop-word.invariant has.0 has.1) c.in_default.is)
+
+-- src/code.rt:35:5
+pub loop-word-preserved : goal.loop-word-preserved
+loop-word-preserved c whole are =
+    let made = c.in_ok-push.ensures in
+    let e = made.items in
+    subst (λ (found : List Ins). IsDecoded found (drop (c.loop-word.word-index + 1) c.args.words.now) whole) (sym e) (decodes _ whole c.args.words.now c.loop-word.word-index c.decode.result c.in-Some.instruction c.loop-word-test.true c.decode.ensures.only c.in-Some.is (c.loop-word.invariant whole are))
+
+-- src/code.rt:30:1
+pub returns : goal.returns
+returns c whole are = all_decoded _ whole c.args.words.now c.loop-word.word-index c.loop-word-test.false (c.loop-word.invariant whole are)

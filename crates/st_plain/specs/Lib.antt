@@ -1,0 +1,7 @@
+pub mod Answer
+pub mod Code
+pub mod Frames
+pub mod Threads
+pub mod Endings
+pub mod Standing
+pub mod Running

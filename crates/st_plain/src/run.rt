@@ -1,0 +1,160 @@
+//! A run of unchanged code, item by item.
+ghost use Rattle.std.specs.Prelude.{◌≡◌, ◌⊎◌, ◌<◌, ◌≤◌, ◌-◌, ℕ, length, IfOk, IfSome, None, Some, true, false, reverse};
+ghost use Rattle.st_base.specs.declared.limits.LimitKind.{LimitKind};
+ghost use Rattle.st_base.specs.declared.limits.Limits.{Limits};
+ghost use Rattle.st_model.specs.declared.ordinary.OrdEnd.{OrdEnd};
+ghost use Rattle.st_model.specs.declared.program.Program.{Program};
+ghost use Rattle.st_model.specs.declared.ordinary.State.{State};
+ghost use Rattle.st_model.specs.Memory.{Data, data_of};
+ghost use Rattle.st_model.specs.Ordinary.{start};
+ghost use Rattle.st_words.specs.Laws.{named, progress_of};
+ghost use Rattle.st_words.specs.Views.{no_load};
+ghost use Rattle.st_plain.specs.Answer.{HasProgram, IsPlainImage};
+ghost use Rattle.st_plain.specs.Endings.{end_by};
+ghost use Rattle.st_plain.specs.Running.{EndsBy, HasBoard, IsDefinedFrom, IsPast, IsReady, IsUnderWay};
+
+use crate::code::{Code, word_index};
+use crate::stop::Ending;
+use crate::threads::Threads;
+use crate::whole::PlainEnd;
+use st_base::image::Image;
+use st_base::limits::{LimitKind, Limits};
+use st_base::reg::Reg;
+use st_step::{Machine, StepEnd};
+use st_words::board::Next;
+use st_words::plain::PlainBoard;
+use std::alloc::{AllocError, Global};
+use std::marker::Brand;
+
+/// Where the code begins; the entries of the runtime stand below.
+const CODE_START: u32 = 0x1_0000;
+/// Where the stack begins.
+const STACK_START: u64 = 0x8000_0000;
+/// The entry to which the root's first call comes back.
+const END: u64 = 0x30;
+/// More turns than any item takes: the instructions of an epilogue, the jump and the entry behind it.
+const MOST_TURNS: u32 = 64;
+
+/// The view after a step, where the worker's threads do nothing by it.
+struct Plainly;
+
+impl Next for Plainly {
+    ghost after = { λ v s a. named (progress_of v) v s a };
+
+    ghost load = { λ _ _ _. no_load };
+}
+
+/// A run of unchanged code: the machine, the words of its stack, the image's tables and the threads.
+#[derive(Drop)]
+pub struct PlainRun {
+    pub(crate) machine: Machine,
+    pub(crate) board: PlainBoard,
+    pub(crate) code: Code,
+    pub(crate) threads: Threads,
+}
+
+impl PlainRun {
+    /// A run at the first instruction of `main`, whose input has so many bytes. All memory of the run is taken here.
+    pub fn open(
+        alloc: Global,
+        image: &Image,
+        input: &[u8],
+        limits: &Limits,
+    ) -> Result<PlainRun, AllocError>
+        requires image { ∥ HasProgram image.now ∥₁ }
+        requires input { length input.now ≤ 16777216 }
+        ensures ready { IfOk result (λ run. (p : Program) → (s : State) → IsPlainImage p image.now → start p (data_of image.now.rodata input.now) ≡ Some s → IsDefinedFrom p (data_of image.now.rodata input.now) s → IsReady p image.now (data_of image.now.rodata input.now) limits.now run s) }
+        ensures board { IfOk result (λ run. HasBoard run.board) }
+        ensures cells { IfOk result (λ run. length run.threads.cells.items.items ≡ 1) }
+    {
+        let code = Code::of(alloc, image)?;
+        let threads = Threads::open(alloc, limits.cells)?;
+        let board = PlainBoard::open::<Brand>(alloc, limits, 1)?;
+        let high = STACK_START + u64::from(limits.stack);
+        let mut machine = Machine::new(STACK_START, high);
+        machine.set_reg(Reg::Sp, high);
+        machine.set_reg(Reg::Ra, END);
+        machine.set_reg(Reg::A0, input.len() as u64);
+        machine.set_pc(image.main_at);
+        Ok(PlainRun {
+            machine,
+            board,
+            code,
+            threads,
+        })
+    }
+
+    /// Whether the run is at the first instruction of an item.
+    fn is_at_item(&self, image: &Image) -> bool
+        ensures past { (p : Program) → (d : Data) → (limits : Limits) → (drawn : ℕ) → (s : State) → IsPast p image.now d limits drawn self.now s → result ≡ true }
+        ensures amid { (p : Program) → (d : Data) → (limits : Limits) → (drawn : ℕ) → (s : State) → (left : ℕ) → IsUnderWay p image.now d limits drawn self.now s left → left < 42 → result ≡ false }
+    {
+        let pc = self.machine.pc();
+        pc >= CODE_START
+            && !self.machine.is_half_done()
+            && image.begins.as_slice().get(word_index(pc)) == Some(&true)
+    }
+
+    /// One instruction, or what the runtime does at an entry.
+    fn turn(&mut self, image: &Image, input: &[u8]) -> Option<Ending>
+        requires board { HasBoard self.old.board }
+        requires amid { ∥ ((p : Program) × (limits : Limits) × (drawn : ℕ) × (s : State) × (left : ℕ) × IsUnderWay p image.now (data_of image.now.rodata input.now) limits drawn self.old s left) ∥₁ }
+        ensures board { HasBoard self.new.board }
+        ensures going { result ≡ None → (p : Program) → (limits : Limits) → (drawn : ℕ) → (s : State) → (left : ℕ) → IsUnderWay p image.now (data_of image.now.rodata input.now) limits drawn self.old s left → ((less : ℕ) × (less < left) × (less < 42) × IsUnderWay p image.now (data_of image.now.rodata input.now) limits drawn self.new s less) ⊎ IsPast p image.now (data_of image.now.rodata input.now) limits drawn self.new s }
+        ensures over { IfSome result (λ ending. (p : Program) → (limits : Limits) → (drawn : ℕ) → (s : State) → (left : ℕ) → IsUnderWay p image.now (data_of image.now.rodata input.now) limits drawn self.old s left → EndsBy p (data_of image.now.rodata input.now) limits drawn self.new.threads.notes.items.items self.new.threads.out.items.items s ending) }
+    {
+        let pc = self.machine.pc();
+        if pc < CODE_START {
+            return self.enter(image);
+        }
+        let at = word_index(pc);
+        let instruction = self.code.instructions[at];
+        let end = self.machine.execute::<PlainBoard, Plainly>(
+            instruction,
+            image.rodata.as_slice(),
+            input,
+            &mut self.board,
+            0,
+        );
+        match end {
+            StepEnd::Ran => None,
+            StepEnd::Trap(kind) => Some(Ending::Trap {
+                kind,
+                line: image.lines.as_slice()[at],
+            }),
+            StepEnd::StackFull { frame } => {
+                Some(Ending::Limit(LimitKind::Stack { worker: 0, frame }))
+            }
+            StepEnd::Entry(_) => unreachable!(),
+        }
+    }
+
+    /// Runs the item at whose first instruction the run is, up to the next item's.
+    ///
+    /// The run then stands for the next state of the ordinary-call run; it says why the run ends where the item ends it or meets a limit.
+    pub fn item(&mut self, image: &Image, input: &[u8]) -> Option<Ending>
+        requires board { HasBoard self.old.board }
+        requires ready { ∥ ((p : Program) × (limits : Limits) × (s : State) × IsReady p image.now (data_of image.now.rodata input.now) limits self.old s) ∥₁ }
+        ensures board { HasBoard self.new.board }
+        ensures going { result ≡ None → (p : Program) → (limits : Limits) → (s : State) → IsReady p image.now (data_of image.now.rodata input.now) limits self.old s → IsPast p image.now (data_of image.now.rodata input.now) limits (length self.old.threads.cells.items.items) self.new s }
+        ensures over { IfSome result (λ ending. (p : Program) → (limits : Limits) → (s : State) → IsReady p image.now (data_of image.now.rodata input.now) limits self.old s → EndsBy p (data_of image.now.rodata input.now) limits (length self.old.threads.cells.items.items) self.new.threads.notes.items.items self.new.threads.out.items.items s ending) }
+    {
+        for _ in 0..MOST_TURNS {
+            if let Some(ending) = self.turn(image, input) {
+                return Some(ending);
+            }
+            if self.is_at_item(image) {
+                return None;
+            }
+        }
+        unreachable!()
+    }
+
+    /// The end of the run, which the running thread ends so. Takes no memory.
+    pub(crate) fn into_end(self, ending: Ending) -> PlainEnd
+        ensures end { (e : OrdEnd) → end_by (reverse self.threads.notes.items.items) self.threads.out.items.items ending ≡ Some e → result ≡ PlainEnd.Ended e }
+        ensures limit { (kind : LimitKind) → ending ≡ Ending.Limit kind → result ≡ PlainEnd.Limit kind }
+    {
+        self.threads.into_end(ending)
+    }
+}
