@@ -1,9 +1,10 @@
-pub mod Cutting
-pub mod Names
-pub mod FormFunctions
 pub mod ReadOn
 pub mod ReadTexts
 pub mod UnitLines
+pub mod EndLines
+pub mod OutcomeSets
+pub mod Asking
 pub mod Answering
 pub mod Listings
 pub mod Posting
+pub mod Running

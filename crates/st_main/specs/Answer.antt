@@ -1,14 +1,13 @@
 -- What the program answers: the job that its words ask for, and the outcome of it: how the program exits, what it prints and what fault it
--- tells. Read AsksFor, outcome_of, IsCheckOutcome, IsPostOutcome and IsAnswer. `run` takes the ordinary-call run of the file's program, of at most 2^32
--- steps; `check` prints the canonical text of an accepted unit, `post` the listing of its postprocessed code.
-use Rattle.std.specs.Prelude.{◌≡◌, ◌⊎◌, ℤ, ℕ, ◌+◌, ◌^◌, ◌<◌, List, [], ◌∷◌, length, take, Option, Some, None, option_map, IfSome, codes, Result, Ok, Err, Bool, true, not, ◌||◌, nat_eq}
-use Rattle.std.specs.List.{list_all, starts_with}
-use Rattle.std.specs.Str.{bytes_eq}
+-- tells. Read AsksFor, then IsAnswer, and for each command what its texts come to: RefusesTexts, IsRunnable and RunsTo of `run` and `plain`,
+-- which take the bounded ordinary-call run of the files' program on the input; IsCheckOutcome of `check`, the canonical text of an
+-- accepted unit; IsPostOutcome of `post`, the listing of its postprocessed code.
+use Rattle.std.specs.Prelude.{◌≡◌, ◌⊎◌, ℤ, ℕ, ◌+◌, ◌<◌, ◌≤◌, List, [], ◌∷◌, length, take, Option, Some, None, option_map, IfSome, codes, Result, Ok, Err}
+use Rattle.st_base.specs.declared.limits.LimitKind.{LimitKind}
+use Rattle.st_base.specs.declared.limits.LimitKind.TheVariants.{Stack, Cell, Step, Out, Input}
 use Rattle.st_base.specs.declared.line.Line.{Line}
-use Rattle.st_base.specs.declared.limits.LimitKind.TheVariants.{Step, Out}
 use Rattle.st_base.specs.Outside.{HasRisen, Appends}
 use Rattle.st_line.specs.declared.fault.AsmFault.{AsmFault}
-use Rattle.st_line.specs.declared.fault.AsmKind.TheVariants.{UnknownName}
 use Rattle.st_asm.specs.Assembly.{Parts, unit_of}
 use Rattle.st_print.specs.declared.fault.Fault.{Fault}
 use Rattle.st_print.specs.declared.fault.Fault.TheVariants as faults
@@ -19,104 +18,106 @@ use Rattle.st_check.specs.Acceptance.{IsAcceptedUnit, IsFirstFault}
 use Rattle.st_check.specs.Programs.{program_of as program_of'}
 use Rattle.st_asm.specs.declared.unit.Function.{Function}
 use Rattle.st_model.specs.declared.code.Layout.TheVariants.{Postprocessed}
-use Rattle.st_model.specs.Layout.{code_of, far_branch, AreWords}
-use Rattle.st_main.specs.Listing.{listing_of}
-use Rattle.st_jobs.specs.Commands.{Asked, Setting, setting, job_of}
 use Rattle.st_model.specs.declared.ordinary.OrdEnd.{OrdEnd}
 use Rattle.st_model.specs.declared.ordinary.OrdEnd.TheVariants as ends
+use Rattle.st_model.specs.Bounded.{Bounds, BoundedEnd, ended, past_steps, past_cells, past_stack, bounded_run}
+use Rattle.st_model.specs.Layout.{code_of, far_branch, AreWords}
 use Rattle.st_model.specs.Memory.{data_of}
-use Rattle.st_model.specs.Ordinary.{ordinary_run}
+use Rattle.st_jobs.specs.Commands.{Asked, Setting, setting, workers_id, job_of}
 use Rattle.st_main.specs.declared.exit.Exit.{Exit}
 use Rattle.st_main.specs.declared.exit.Exit.TheVariants.{Done, Usage, Refused, Trap, Limit, ReadFault, WriteFault, OutOfMemory, Waits}
 use Rattle.st_main.specs.declared.outcome.Outcome.{Outcome}
-use Rattle.st_main.specs.Form.{departing_line, program_of}
+use Rattle.st_main.specs.Listing.{listing_of}
 
 -- ---- the words
 
--- the limits of a run that names none
-abbrev pub standard_limits : List Setting
-standard_limits = setting (codes "stack") 1048576 ∷ setting (codes "cells") 16384 ∷ setting (codes "steps") (2 ^ 32) ∷ []
-
--- a run of one file, with one worker and the limits of a run that names none
-abbrev pub standard_run : List ℕ → Asked
-standard_run file = record {
-  command = codes "run";
-  settings = setting (codes "workers") 1 ∷ standard_limits;
-  schedule = [];
-  files = file ∷ [];
-}
-
--- a job that is built: the run of a file, the check of files, or their postprocessing
+-- a job that is built: the run of files with one worker within limits, by `run` or by `plain`; the check of files, or their postprocessing
 pub data Built : Type 0 where
-  Runs : List ℕ → Built
+  Runs : Bounds → List (List ℕ) → Built
+  Plains : Bounds → List (List ℕ) → Built
   Checks : List (List ℕ) → Built
   Posts : List (List ℕ) → Built
 
+-- one worker, and these limits
+abbrev pub run_settings : Bounds → List Setting
+run_settings b = setting workers_id 1 ∷ (setting (codes "stack") b.stack ∷ setting (codes "cells") b.cells ∷ setting (codes "steps") b.steps ∷ [])
+
 abbrev pub asked_by : Built → Asked
-asked_by (Runs file) = standard_run file
+asked_by (Runs b files) = record { command = codes "run"; settings = run_settings b; schedule = []; files = files }
+asked_by (Plains b files) = record { command = codes "plain"; settings = run_settings b; schedule = []; files = files }
 asked_by (Checks files) = record { command = codes "check"; settings = []; schedule = []; files = files }
 asked_by (Posts files) = record { command = codes "post"; settings = []; schedule = []; files = files }
 
--- the word is no option, or the number of workers; in words that give a job no value of an option begins with `-`
-unfoldable pub is_workers_word : List ℕ → Bool
-is_workers_word word = not (starts_with nat_eq word (codes "-")) || (bytes_eq word (codes "--workers") || starts_with nat_eq word (codes "--workers="))
-
--- no option but the number of workers is named
-abbrev pub names_workers_alone : List (List ℕ) → Bool
-names_workers_alone words = list_all is_workers_word words
-
--- the words ask for a job that is built; a run that names another option isn't, also where the option's value is its default
+-- the words ask for a job that is built
 abbrev pub AsksFor : List (List ℕ) → Built → Type 0
-AsksFor words (Runs file) = (job_of words ≡ Some (asked_by (Runs file))) × (names_workers_alone words ≡ true)
-AsksFor words (Checks files) = job_of words ≡ Some (asked_by (Checks files))
-AsksFor words (Posts files) = job_of words ≡ Some (asked_by (Posts files))
+AsksFor words job = job_of words ≡ Some (asked_by job)
 
 abbrev pub AsksForNone : List (List ℕ) → Type 0
 AsksForNone words = (job : Built) → AsksFor words job → ⊥
 
--- ---- the outcome of a run: how the program exits, what it prints and what fault it tells
-
--- a line of the one file
-abbrev pub in_file : Line → Line
-in_file line = record { file = 1; line = line.line }
-
--- of an end of the ordinary-call run; a run that goes on has met the limit of steps
-abbrev pub outcome_of_end : OrdEnd → Outcome
-outcome_of_end ends.Going = record { exit = Limit (Step 0); printed = []; fault = Some (faults.Limit (Step 0)) }
-outcome_of_end (ends.Done out) = record { exit = Done; printed = out; fault = None }
-outcome_of_end (ends.Trap kind line path out) = record { exit = Trap; printed = out; fault = Some (faults.Trap (in_file line) kind path) }
-outcome_of_end (ends.Waits line path out) = record { exit = Waits; printed = out; fault = Some (faults.Waits (in_file line) path) }
-outcome_of_end (ends.OutLimit out) = record { exit = Limit Out; printed = out; fault = Some (faults.Limit Out) }
+-- ---- refusals
 
 abbrev pub refusal : AsmFault → Outcome
 refusal fault = record { exit = Refused; printed = []; fault = Some (faults.Reading fault) }
 
--- the fault of a text that departs from the form at a line
-abbrev pub departure : ℕ → AsmFault
-departure line = record { line = record { file = 1; line = line }; kind = UnknownName }
-
--- of a text that reads: it is refused at the first line that departs from the form, or its program is run
-abbrev pub outcome_by_form : List ℕ → Option ℕ → Option Outcome
-outcome_by_form text (Some line) = Some (refusal (departure line))
-outcome_by_form text None = option_map outcome_of_end (ordinary_run (program_of text) (data_of [] []) (2 ^ 32))
-
--- a text that doesn't read is refused at its first fault
-abbrev pub outcome_by_unit : List ℕ → Result Parts AsmFault → Option Outcome
-outcome_by_unit text (Err fault) = Some (refusal fault)
-outcome_by_unit text (Ok parts) = outcome_by_form text (departing_line text)
-
--- of a file with this text
-unfoldable pub outcome_of : List ℕ → Option Outcome
-outcome_of text = outcome_by_unit text (unit_of (text ∷ []))
-
--- the one text of a run comes to this outcome
-abbrev pub IsRunOutcome : List (List ℕ) → Outcome → Type 0
-IsRunOutcome texts o = (text : List ℕ) × (texts ≡ text ∷ []) × (outcome_of text ≡ Some o)
-
--- ---- the outcome of a check
-
 abbrev pub form_refusal : FormFault → Outcome
 form_refusal fault = record { exit = Refused; printed = []; fault = Some (faults.Checking fault.line fault.kind) }
+
+abbrev pub link_refusal : Line → ℤ → Outcome
+link_refusal line distance = record { exit = Refused; printed = []; fault = Some (faults.Linking line distance) }
+
+-- a unit that isn't accepted is refused at its first fault
+abbrev pub IsFormRefusal : List Function → Outcome → Type 0
+IsFormRefusal functions o = (fault : FormFault) × IsFirstFault functions fault × (IsAcceptedUnit functions → ⊥) × (o ≡ form_refusal fault)
+
+-- an accepted unit with a branch that doesn't reach is refused at the first one
+abbrev pub IsLinkRefusal : List Function → Outcome → Type 0
+IsLinkRefusal functions o = (line : Line) × (distance : ℤ) × (far_branch (program_of' functions) ≡ Some (line, distance)) × (o ≡ link_refusal line distance)
+
+-- ---- the outcome of a run
+
+-- a limit prints nothing, but that of the output
+abbrev pub limit_outcome : LimitKind → Outcome
+limit_outcome kind = record { exit = Limit kind; printed = []; fault = Some (faults.Limit kind) }
+
+-- of an end of the ordinary-call run; a run that goes on has met the limit of steps
+abbrev pub outcome_of_end : OrdEnd → Outcome
+outcome_of_end ends.Going = limit_outcome (Step 0)
+outcome_of_end (ends.Done out) = record { exit = Done; printed = out; fault = None }
+outcome_of_end (ends.Trap kind line path out) = record { exit = Trap; printed = out; fault = Some (faults.Trap line kind path) }
+outcome_of_end (ends.Waits line path out) = record { exit = Waits; printed = out; fault = Some (faults.Waits line path) }
+outcome_of_end (ends.OutLimit out) = record { exit = Limit Out; printed = out; fault = Some (faults.Limit Out) }
+
+-- of an end of the run within these limits
+abbrev pub outcome_of_bounded : Bounds → BoundedEnd → Outcome
+outcome_of_bounded b (ended end) = outcome_of_end end
+outcome_of_bounded b past_steps = limit_outcome (Step 0)
+outcome_of_bounded b past_cells = limit_outcome (Cell b.cells)
+outcome_of_bounded b (past_stack frame) = limit_outcome (Stack 0 frame)
+
+-- a unit is refused by checking or by linking
+abbrev pub RefusesUnit : Parts → Outcome → Type 0
+RefusesUnit parts o = IsFormRefusal parts.functions o ⊎ (∥ IsAcceptedUnit parts.functions ∥₁ × IsLinkRefusal parts.functions o)
+
+abbrev pub RefusesBy : Result Parts AsmFault → Outcome → Type 0
+RefusesBy (Err fault) o = o ≡ refusal fault
+RefusesBy (Ok parts) o = RefusesUnit parts o
+
+-- the texts are refused, before any input is read: by reading, by checking or by linking
+abbrev pub RefusesTexts : List (List ℕ) → Outcome → Type 0
+RefusesTexts texts o = RefusesBy (unit_of texts) o
+
+-- the texts make a unit, which is accepted and links
+abbrev pub IsRunnable : List (List ℕ) → Parts → Type 0
+IsRunnable texts parts =
+    (unit_of texts ≡ Ok parts) × ∥ IsAcceptedUnit parts.functions ∥₁ × (far_branch (program_of' parts.functions) ≡ None)
+
+-- what the run of a unit's program comes to on an input, within limits
+abbrev pub RunsTo : Bounds → Parts → List ℕ → Outcome → Type 0
+RunsTo b parts input o =
+    option_map (outcome_of_bounded b) (bounded_run (program_of' parts.functions) (data_of parts.rodata input) b) ≡ Some o
+
+-- ---- the outcome of a check
 
 -- the canonical text is printed
 abbrev pub canonical : Parts → Outcome
@@ -125,7 +126,7 @@ canonical parts = record { exit = Done; printed = unit_text parts.functions part
 -- an accepted unit is printed; another is refused at its first fault
 abbrev pub IsUnitOutcome : Parts → Outcome → Type 0
 IsUnitOutcome parts o =
-    (∥ IsAcceptedUnit parts.functions ∥₁ × (o ≡ canonical parts)) ⊎ ((fault : FormFault) × IsFirstFault parts.functions fault × (IsAcceptedUnit parts.functions → ⊥) × (o ≡ form_refusal fault))
+    (∥ IsAcceptedUnit parts.functions ∥₁ × (o ≡ canonical parts)) ⊎ IsFormRefusal parts.functions o
 
 -- texts that don't read are refused at their first fault
 abbrev pub IsCheckBy : Result Parts AsmFault → Outcome → Type 0
@@ -138,21 +139,18 @@ IsCheckOutcome texts o = IsCheckBy (unit_of texts) o
 
 -- ---- the outcome of a postprocessing
 
-abbrev pub link_refusal : Line → ℤ → Outcome
-link_refusal line distance = record { exit = Refused; printed = []; fault = Some (faults.Linking line distance) }
-
 abbrev pub listing : List Function → List ℕ → Outcome
 listing functions ws = record { exit = Done; printed = listing_of functions ws; fault = None }
 
 -- an accepted unit: its first branch that doesn't reach refuses it, or its code is listed
 abbrev pub IsLinkOutcome : List Function → Outcome → Type 0
 IsLinkOutcome functions o =
-    ((line : Line) × (distance : ℤ) × (far_branch (program_of' functions) ≡ Some (line, distance)) × (o ≡ link_refusal line distance)) ⊎ ((far_branch (program_of' functions) ≡ None) × ((ws : List ℕ) × AreWords (code_of Postprocessed (program_of' functions)) ws × (o ≡ listing functions ws)))
+    IsLinkRefusal functions o ⊎ ((far_branch (program_of' functions) ≡ None) × ((ws : List ℕ) × AreWords (code_of Postprocessed (program_of' functions)) ws × (o ≡ listing functions ws)))
 
 -- a unit that isn't accepted is refused at its first fault
 abbrev pub IsPostOf : Parts → Outcome → Type 0
 IsPostOf parts o =
-    (IsAcceptedUnit parts.functions × IsLinkOutcome parts.functions o) ⊎ ((fault : FormFault) × IsFirstFault parts.functions fault × (IsAcceptedUnit parts.functions → ⊥) × (o ≡ form_refusal fault))
+    (IsAcceptedUnit parts.functions × IsLinkOutcome parts.functions o) ⊎ IsFormRefusal parts.functions o
 
 abbrev pub IsPostBy : Result Parts AsmFault → Outcome → Type 0
 IsPostBy (Err fault) o = o ≡ refusal fault
@@ -184,7 +182,7 @@ pub record AreTexts (contents : Option (List ℕ → Option (List ℕ))) (names 
   pub files : AreFiles contents names texts
   pub enough : (length texts ≡ length names) ⊎ (1048576 < bytes_in texts)
 
--- ---- the answer
+-- ---- what is seen of a call
 
 -- what is told of a fault, if there is one, where the files have these names
 abbrev pub told_text : List (List ℕ) → Option Fault → List ℕ
@@ -217,20 +215,70 @@ abbrev pub AnswersFiles : (List (List ℕ) → Outcome → Type 0) → Option (L
 AnswersFiles outcomes contents names seen exit =
     RunsOut seen exit ⊎ (FailsToRead names seen exit ⊎ ((texts : List (List ℕ)) × AreTexts contents names texts × ((o : Outcome) × outcomes texts o × ComesAbout names o seen exit)))
 
--- the answer on a job
-abbrev pub AnswersJob : Built → Option (List ℕ → Option (List ℕ)) → Seen → Exit → Type 0
-AnswersJob (Runs file) contents seen exit = AnswersFiles IsRunOutcome contents (file ∷ []) seen exit
-AnswersJob (Checks files) contents seen exit = AnswersFiles IsCheckOutcome contents files seen exit
-AnswersJob (Posts files) contents seen exit = AnswersFiles IsPostOutcome contents files seen exit
+-- ---- the input
+
+-- what was seen of the input: what it had left before a call and after it, where it tells this, and its counts of faults
+pub record Intake : Type 0 where
+  pub before : Option (List ℕ)
+  pub after : Option (List ℕ)
+  pub faults_before : ℕ
+  pub faults_after : ℕ
+
+abbrev pub intake_of : Option (List ℕ) → Option (List ℕ) → ℕ → ℕ → Intake
+intake_of before after faults_before faults_after = record {
+  before = before;
+  after = after;
+  faults_before = faults_before;
+  faults_after = faults_after;
+}
+
+-- the input, where it tells what it has; nothing of it is left
+abbrev pub IsInput : Intake → List ℕ → Type 0
+IsInput intake bytes = IfSome intake.before (λ told. (told ≡ bytes) × (intake.after ≡ Some []))
+
+-- the input has more than 16,777,216 bytes, where it tells what it has
+abbrev pub IsLongInput : Intake → Type 0
+IsLongInput intake = IfSome intake.before (λ told. 16777216 < length told)
+
+-- the input could not be read, since its count of faults rose: nothing is printed
+abbrev pub FailsToReadInput : List (List ℕ) → Intake → Seen → Exit → Type 0
+FailsToReadInput names intake seen exit =
+    (exit ≡ ReadFault) × HasRisen intake.faults_before intake.faults_after × seen.Printed [] × seen.Told (fault_text names faults.ReadInput)
+
+-- the answer on the input: it could not be read, or it is too long, or the program runs on it
+abbrev pub AnswersInput : Bounds → Parts → List (List ℕ) → Intake → Seen → Exit → Type 0
+AnswersInput b parts names intake seen exit =
+    FailsToReadInput names intake seen exit
+    ⊎ ((IsLongInput intake × ComesAbout names (limit_outcome Input) seen exit)
+    ⊎ ((input : List ℕ) × IsInput intake input × (length input ≤ 16777216) × ((o : Outcome) × RunsTo b parts input o × ComesAbout names o seen exit)))
+
+-- the answer of a run on texts: they are refused, and the input is as it was; or it goes on with the input
+abbrev pub AnswersTexts : Bounds → List (List ℕ) → List (List ℕ) → Intake → Seen → Exit → Type 0
+AnswersTexts b texts names intake seen exit =
+    ((intake.after ≡ intake.before) × ((o : Outcome) × RefusesTexts texts o × ComesAbout names o seen exit)) ⊎ ((parts : Parts) × IsRunnable texts parts × AnswersInput b parts names intake seen exit)
+
+-- the answer of a run of files
+abbrev pub AnswersRun : Bounds → Option (List ℕ → Option (List ℕ)) → List (List ℕ) → Intake → Seen → Exit → Type 0
+AnswersRun b contents names intake seen exit =
+    RunsOut seen exit ⊎ (FailsToRead names seen exit ⊎ ((texts : List (List ℕ)) × AreTexts contents names texts × AnswersTexts b texts names intake seen exit))
+
+-- ---- the answer
+
+-- the answer on a job that is built
+abbrev pub AnswersJob : Built → Option (List ℕ → Option (List ℕ)) → Intake → Seen → Exit → Type 0
+AnswersJob (Runs b files) contents intake seen exit = AnswersRun b contents files intake seen exit
+AnswersJob (Plains b files) contents intake seen exit = AnswersRun b contents files intake seen exit
+AnswersJob (Checks files) contents intake seen exit = AnswersFiles IsCheckOutcome contents files seen exit
+AnswersJob (Posts files) contents intake seen exit = AnswersFiles IsPostOutcome contents files seen exit
 
 -- the words ask for no job, or for one that isn't built: nothing is printed
 abbrev pub RefusesWords : Seen → Exit → Type 0
 RefusesWords seen exit = (exit ≡ Usage) × seen.Printed [] × seen.Told (fault_text [] faults.Usage)
 
 -- the answer of the program
-abbrev pub IsAnswer : List (List ℕ) → Option (List ℕ → Option (List ℕ)) → Seen → Exit → Type 0
-IsAnswer words contents seen exit =
-    RunsOut seen exit ⊎ ((AsksForNone words × RefusesWords seen exit) ⊎ ((job : Built) × AsksFor words job × AnswersJob job contents seen exit))
+abbrev pub IsAnswer : List (List ℕ) → Option (List ℕ → Option (List ℕ)) → Intake → Seen → Exit → Type 0
+IsAnswer words contents intake seen exit =
+    RunsOut seen exit ⊎ ((AsksForNone words × RefusesWords seen exit) ⊎ ((job : Built) × AsksFor words job × AnswersJob job contents intake seen exit))
 
 -- a sink has taken a text, or a prefix of it where its count of faults rose
 abbrev pub TookOrFailed : ℕ → ℕ → Option (List ℕ) → Option (List ℕ) → List ℕ → Type 0

@@ -1,17 +1,15 @@
 //! Whole checks over memory.
 use crate::command::st_main;
 use crate::exit::Exit;
-use crate::tests::{EPILOGUE, PROLOGUE, words};
+use crate::programs::EMPTY;
+use crate::tests::{EPILOGUE, PROLOGUE, come_to, files_of, words};
 use st_base::outside::NoGate;
-use st_base::outside_memory::{MemFiles, MemSink, MemSource};
 use st_base::outside_sure::{SureFiles, SureSink, SureSource};
 use std::alloc::{AllocError, Global};
-use std::sync::Wait;
 use std::test::Fail;
-use std::thread::Threads;
 
 /// `leaf.s`: it saves no `ra`.
-const LEAF: &str = "main:
+pub const LEAF: &str = "main:
     addi sp,sp,-16
     sd s0,8(sp)
     addi s0,sp,16
@@ -79,63 +77,21 @@ f:
     ret
 ";
 
-/// `empty.s`: it gives its argument back.
-pub(crate) fn empty(alloc: Global) -> Result<String, AllocError> {
-    format!(in alloc; "main:\n    .st_args 1,0\n{PROLOGUE}{EPILOGUE}")
-}
-
-/// Its canonical text.
+/// The canonical text of `empty.s`.
 fn empty_canonical(alloc: Global) -> Result<String, AllocError> {
     format!(in alloc; "main:\n    .st_args 1,0\n    .st_handles 0\n{PROLOGUE}{EPILOGUE}")
-}
-
-/// Files of these names, with these texts.
-pub(crate) fn files_of(
-    alloc: Global,
-    held: &[(&str, &[u8])],
-) -> Result<Vec<(String, Vec<u8>)>, AllocError> {
-    let mut files = Vec::new(alloc);
-    for (name, text) in held {
-        files.push((
-            String::from_str(alloc, name)?,
-            Vec::from_slice(alloc, text)?,
-        ))?;
-    }
-    Ok(files)
-}
-
-/// Runs the words over such files, where the calls of these numbers fail at the files and at the output, and tells whether
-/// it exits, prints and tells so.
-pub(crate) fn come_to<R: Threads + Wait + Sync>(
-    rt: &R,
-    alloc: Global,
-    list: &[&str],
-    held: &[(&str, &[u8])],
-    fails: (u64, u64),
-    want: (Exit, &[u8], &[u8]),
-) -> Result<bool, AllocError> {
-    let words = words(alloc, list)?;
-    let mut files = MemFiles::open(files_of(alloc, held)?, vec![in alloc; fails.0]?);
-    let mut input = MemSource::open(Vec::new(alloc), Vec::new(alloc));
-    let mut out = MemSink::open(alloc, 1000, vec![in alloc; fails.1]?)?;
-    let mut err = MemSink::open(alloc, 100, Vec::new(alloc))?;
-    let exit = st_main(
-        rt, alloc, &words, &mut files, &mut input, &mut out, &mut err, &NoGate,
-    );
-    Ok(exit == want.0 && out.taken() == want.1 && err.taken() == want.2)
 }
 
 #[test]
 fn prints_an_accepted_unit(rt: HostRuntime) -> Result<(), Fail> {
     let alloc = rt.alloc();
-    let text = empty(alloc)?;
     let canonical = empty_canonical(alloc)?;
     assert!(rt;
         come_to(
             &rt,
             alloc,
             &["check", "empty.s"],
-            &[("empty.s", text.as_bytes())],
+            &[("empty.s", EMPTY.as_bytes())],
             (0, 0),
             (Exit::Done, canonical.as_bytes(), b"")
         )?
@@ -146,10 +102,9 @@ fn prints_an_accepted_unit(rt: HostRuntime) -> Result<(), Fail> {
 #[test]
 fn prints_over_what_never_fails(rt: HostRuntime) -> Result<(), Fail> {
     let alloc = rt.alloc();
-    let text = empty(alloc)?;
     let canonical = empty_canonical(alloc)?;
     let words = words(alloc, &["check", "empty.s"])?;
-    let mut files = SureFiles::open(files_of(alloc, &[("empty.s", text.as_bytes())])?);
+    let mut files = SureFiles::open(files_of(alloc, &[("empty.s", EMPTY.as_bytes())])?);
     let mut input = SureSource::open(Vec::new(alloc));
     let mut out = SureSink::open(alloc, 1000)?;
     let mut err = SureSink::open(alloc, 100)?;
@@ -190,14 +145,13 @@ fn refuses_at_the_first_fault(rt: HostRuntime) -> Result<(), Fail> {
 #[test]
 fn tells_the_later_file_that_is_not_read(rt: HostRuntime) -> Result<(), Fail> {
     let alloc = rt.alloc();
-    let text = empty(alloc)?;
     // the third read is the second file's first
     assert!(rt;
         come_to(
             &rt,
             alloc,
             &["check", "a.s", "b.s"],
-            &[("a.s", text.as_bytes()), ("b.s", b"")],
+            &[("a.s", EMPTY.as_bytes()), ("b.s", b"")],
             (3, 0),
             (Exit::ReadFault, b"", b"read fault b.s\n")
         )?
@@ -208,13 +162,12 @@ fn tells_the_later_file_that_is_not_read(rt: HostRuntime) -> Result<(), Fail> {
 #[test]
 fn tells_an_output_that_fails(rt: HostRuntime) -> Result<(), Fail> {
     let alloc = rt.alloc();
-    let text = empty(alloc)?;
     assert!(rt;
         come_to(
             &rt,
             alloc,
             &["check", "empty.s"],
-            &[("empty.s", text.as_bytes())],
+            &[("empty.s", EMPTY.as_bytes())],
             (0, 1),
             (Exit::WriteFault, b"", b"write fault\n")
         )?
@@ -242,13 +195,12 @@ fn reads_no_file_behind_the_limit(rt: HostRuntime) -> Result<(), Fail> {
 #[test]
 fn reads_a_file_again_that_is_named_twice(rt: HostRuntime) -> Result<(), Fail> {
     let alloc = rt.alloc();
-    let text = empty(alloc)?;
     assert!(rt;
         come_to(
             &rt,
             alloc,
             &["check", "empty.s", "empty.s"],
-            &[("empty.s", text.as_bytes())],
+            &[("empty.s", EMPTY.as_bytes())],
             (0, 0),
             (Exit::Refused, b"", b"empty.s:1: E6 DoubleLabel\n")
         )?
@@ -259,12 +211,11 @@ fn reads_a_file_again_that_is_named_twice(rt: HostRuntime) -> Result<(), Fail> {
 #[test]
 fn takes_64_files(rt: HostRuntime) -> Result<(), Fail> {
     let alloc = rt.alloc();
-    let text = empty(alloc)?;
     let canonical = empty_canonical(alloc)?;
     let mut list = ["none.s"; 65];
     list[0] = "check";
     list[64] = "empty.s";
-    let held: [(&str, &[u8]); 2] = [("none.s", b""), ("empty.s", text.as_bytes())];
+    let held: [(&str, &[u8]); 2] = [("none.s", b""), ("empty.s", EMPTY.as_bytes())];
     assert!(rt;
         come_to(
             &rt,

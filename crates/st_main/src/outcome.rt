@@ -1,15 +1,14 @@
 //! What a command comes to: how the program exits, what it prints and what fault it tells.
 ghost use Rattle.std.specs.Prelude.{◌≡◌};
-ghost use Rattle.st_main.specs.Answer.{in_file};
 
 use crate::exit::Exit;
-use st_asm::{AsmFault, AsmKind};
+use st_asm::AsmFault;
 use st_base::limits::LimitKind;
-use st_base::line::Line;
 use st_base::path::Bytes;
 use st_check::FormFault;
 use st_link::LinkFault;
 use st_model::ordinary::OrdEnd;
+use st_plain::PlainEnd;
 use st_print::Fault;
 use std::alloc::Global;
 
@@ -21,33 +20,28 @@ pub struct Outcome {
     pub fault: Option<Fault>,
 }
 
-/// A line of the one file.
-fn in_file(line: Line) -> Line
-    ensures { result ≡ in_file line }
-{
-    Line {
-        file: 1,
-        line: line.line,
-    }
-}
-
 impl Outcome {
     ghost use Rattle.std.specs.Prelude.{None, Some, []};
     ghost use Rattle.st_print.specs.declared.fault.Fault.TheVariants.{Reading};
-    ghost use Rattle.st_main.specs.Answer.{departure, form_refusal, link_refusal, outcome_of_end, refusal};
-    ghost use Rattle.st_main.specs.Naming.{NamesAmong};
+    ghost use Rattle.st_main.specs.Answer.{form_refusal, limit_outcome, link_refusal, outcome_of_end, refusal};
+    ghost use Rattle.st_main.specs.Running.{outcome_of_plain};
 
-    /// The outcome of an end of the ordinary-call run. A run that goes on has met the limit of steps.
-    pub fn of_end(alloc: Global, end: OrdEnd) -> Outcome
-        ensures end { result ≡ outcome_of_end end }
-        ensures names { NamesAmong 1 result }
+    /// The outcome of a run of unchanged code.
+    pub fn of_plain(alloc: Global, end: PlainEnd) -> Outcome
+        ensures { result ≡ outcome_of_plain end }
     {
         match end {
-            OrdEnd::Going => Outcome {
-                exit: Exit::Limit(LimitKind::Step { worker: 0 }),
-                printed: Bytes::new(alloc),
-                fault: Some(Fault::Limit(LimitKind::Step { worker: 0 })),
-            },
+            PlainEnd::Ended(end) => Outcome::of_end(alloc, end),
+            PlainEnd::Limit(kind) => Outcome::of_limit(alloc, kind),
+        }
+    }
+
+    /// The outcome of an end of the ordinary-call run. A run that goes on has met the limit of steps.
+    fn of_end(alloc: Global, end: OrdEnd) -> Outcome
+        ensures { result ≡ outcome_of_end end }
+    {
+        match end {
+            OrdEnd::Going => Outcome::of_limit(alloc, LimitKind::Step { worker: 0 }),
             OrdEnd::Done { out } => Outcome {
                 exit: Exit::Done,
                 printed: out,
@@ -61,19 +55,12 @@ impl Outcome {
             } => Outcome {
                 exit: Exit::Trap,
                 printed: out,
-                fault: Some(Fault::Trap {
-                    line: in_file(line),
-                    kind,
-                    path,
-                }),
+                fault: Some(Fault::Trap { line, kind, path }),
             },
             OrdEnd::Waits { line, path, out } => Outcome {
                 exit: Exit::Waits,
                 printed: out,
-                fault: Some(Fault::Waits {
-                    line: in_file(line),
-                    path,
-                }),
+                fault: Some(Fault::Waits { line, path }),
             },
             OrdEnd::OutLimit { out } => Outcome {
                 exit: Exit::Limit(LimitKind::Out),
@@ -83,18 +70,15 @@ impl Outcome {
         }
     }
 
-    /// The outcome of a text that departs from the form at a line.
-    pub fn of_departure(alloc: Global, line: u32) -> Outcome
-        ensures departure { result ≡ refusal (departure line) }
-        ensures names { NamesAmong 1 result }
+    /// The outcome of a limit that prints nothing.
+    pub fn of_limit(alloc: Global, kind: LimitKind) -> Outcome
+        ensures { result ≡ limit_outcome kind }
     {
-        Outcome::of_refusal(
-            alloc,
-            AsmFault {
-                line: Line { file: 1, line },
-                kind: AsmKind::UnknownName,
-            },
-        )
+        Outcome {
+            exit: Exit::Limit(kind),
+            printed: Bytes::new(alloc),
+            fault: Some(Fault::Limit(kind)),
+        }
     }
 
     /// The outcome of texts that don't read.

@@ -1,8 +1,8 @@
 //! Whole postprocessings over memory.
-use crate::check_tests::{come_to, empty, files_of};
 use crate::command::st_main;
 use crate::exit::Exit;
-use crate::tests::words;
+use crate::programs::EMPTY;
+use crate::tests::{come_to, files_of, words};
 use st_base::outside::NoGate;
 use st_base::outside_sure::{SureFiles, SureSink, SureSource};
 use std::alloc::{AllocError, Global};
@@ -30,7 +30,7 @@ const LISTING: &str = "main:
 ";
 
 /// `far.s`: a branch over so many lines `nop` and an epilogue.
-fn far(alloc: Global, count: usize) -> Result<Vec<u8>, AllocError> {
+pub fn far(alloc: Global, count: usize) -> Result<Vec<u8>, AllocError> {
     let leave = b"ld ra,8(sp)\nld s0,0(sp)\naddi sp,sp,16\nret\n";
     let mut text = Vec::from_slice(
         alloc,
@@ -48,13 +48,12 @@ fn far(alloc: Global, count: usize) -> Result<Vec<u8>, AllocError> {
 #[test]
 fn lists_the_code_of_a_unit(rt: HostRuntime) -> Result<(), Fail> {
     let alloc = rt.alloc();
-    let text = empty(alloc)?;
     assert!(rt;
         come_to(
             &rt,
             alloc,
             &["post", "empty.s"],
-            &[("empty.s", text.as_bytes())],
+            &[("empty.s", EMPTY.as_bytes())],
             (0, 0),
             (Exit::Done, LISTING.as_bytes(), b""),
         )?

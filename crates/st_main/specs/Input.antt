@@ -1,0 +1,32 @@
+-- Reading the input piece by piece. Moves: what one take moves; IsPart: what holds from take to take; InputFails, TakeFails: where reading
+-- fails.
+use Rattle.std.specs.Prelude.{◌≡◌, ℕ, Bool, false, List, [], ◌++◌, Option, IfSome, IsSomeAnd}
+use Rattle.st_base.specs.Outside.{HasRisen}
+use Rattle.st_main.specs.declared.input.InputError.{InputError}
+use Rattle.st_main.specs.declared.input.InputError.TheVariants.{Fault, TooLong, OutOfMemory}
+use Rattle.st_main.specs.Answer.{Intake, IsLongInput}
+
+-- bytes went from the front of what was left to the end of what was taken; none only where nothing was left
+pub record IsMoved (taken left taken' left' : List ℕ) (more : Bool) : Type 0 where
+  pub same : taken ++ left ≡ taken' ++ left'
+  pub all : more ≡ false → left' ≡ []
+
+-- the same where the input tells what is left
+abbrev pub Moves : Option (List ℕ) → Option (List ℕ) → List ℕ → List ℕ → Bool → Type 0
+Moves left left' taken taken' more = IfSome left (λ rest. IsSomeAnd left' (λ rest'. IsMoved taken rest taken' rest' more))
+
+-- what was taken, and behind it what is left, is all that the input had, where it tells this
+abbrev pub IsPart : Option (List ℕ) → Option (List ℕ) → List ℕ → Type 0
+IsPart before left taken = IfSome before (λ all. IsSomeAnd left (λ rest. taken ++ rest ≡ all))
+
+-- one take fails only where the count rose
+abbrev pub TakeFails : ℕ → ℕ → InputError → Type 0
+TakeFails before after Fault = HasRisen before after
+TakeFails before after TooLong = ⊥
+TakeFails before after OutOfMemory = Unit {0}
+
+-- reading fails where a take does, or the input is too long
+abbrev pub InputFails : Intake → InputError → Type 0
+InputFails intake Fault = HasRisen intake.faults_before intake.faults_after
+InputFails intake TooLong = IsLongInput intake
+InputFails intake OutOfMemory = Unit {0}
