@@ -1,11 +1,16 @@
 -- What a test shows that makes steps of a board on which its worker has come to hold a thread, a chain in its turn and an exported frame
 -- (busy): that a step may be asked there (busy_asks), and that a held word is held behind stores and loads.
-use Rattle.std.proofs.Common.{ℕ, ◌<◌, ◌/◌, ◌≡◌, ◌∷◌, [], length, Some, refl, sym, ap, ◌∙◌, subst, arith}
+use Rattle.std.proofs.Common.{ℕ, ◌<◌, ◌/◌, ◌≡◌, ◌∷◌, [], length, Some, inl, inr, refl, sym, ap, ◌∙◌, subst, arith}
+use Rattle.std.specs.List.{Contains}
 use Rattle.st_base.specs.declared.limits.Limits.{Limits}
+use Rattle.st_base.specs.declared.chain.Chain.{Chain}
+use Rattle.st_words.specs.declared.view.Carried.{Carried}
+use Rattle.st_words.specs.declared.view.CellWord.TheVariants.{Owner, Value}
+use Rattle.st_words.specs.declared.view.Slot.TheVariants.{Cell}
 use Rattle.st_words.specs.declared.view.View.{View}
 use Rattle.st_words.specs.Laws.{named}
 use Rattle.st_words.specs.Plain.{first_view, first_held}
-use Rattle.st_words.specs.Steps.{Step, StackStore, StackLoad, Mark, Answer, Done, Number, Can, Asks, Holds, kept}
+use Rattle.st_words.specs.Steps.{Step, StackStore, StackLoad, Mark, CellLoad, CellStore, CellChange, StopSet, RequestLoad, RequestChange, MailStore, OutStore, OutLoad, SlotPut, Answer, Done, Number, Can, Asks, Holds, HasThread, kept}
 use Rattle.st_words.specs.Views.{Progress, Does, IsFree, view_after, Free, with_free, no_known, no_load}
 use Rattle.st_words.proofs.Naming.{named_asks, store_laws, size_laws}
 use Rattle.st_words.proofs.Sizes.{held_bound}
@@ -13,8 +18,11 @@ use Rattle.st_words.proofs.Sizes.{held_bound}
 abbrev pub busy_progress : Progress
 busy_progress = record { threads = no_known ∷ []; items = 0; frame_bytes = 0 }
 
+abbrev pub busy_chain : Carried
+busy_chain = record no_load.carried { known = record no_known { note = record { cell = 5; forks = 0; counters = 0; bytes = 0 } } }
+
 abbrev pub busy_free : Free
-busy_free = record { progress = busy_progress; chains = no_load.carried ∷ []; names = []; exported = record { low = 0x8000_0000; base = 0x8000_0010 } ∷ [] }
+busy_free = record { progress = busy_progress; chains = busy_chain ∷ []; names = []; exported = record { low = 0x8000_0000; base = 0x8000_0010 } ∷ [] }
 
 abbrev pub busy : View → View
 busy v = with_free busy_free v
@@ -40,3 +48,47 @@ looks_marked v w h after =
     let within : 1 < length v.held = held_bound v 1 h in
     let same : length w.held ≡ length v.held = ap (λ (x : View). length x.held) after ∙ size_laws.held (busy v) (Mark 1) Done in
     omega arith
+
+-- ---- one step of a board of two workers that was opened with 16 cells, by its first worker
+
+abbrev pub FirstAsks : (says : Step → Answer → Type 0) (v : View) (s : Step) → Type 0
+FirstAsks says v s = Asks says IsFree Does (λ w t a. named busy_progress (busy w) t a) v s
+
+first_asks : (says : Step → Answer → Type 0) (limits : Limits) (v : View) (s : Step) → v ≡ first_view limits 2 0 → Can (busy (first_view limits 2 0)) s → FirstAsks says v s
+first_asks says limits v s first can = busy_asks says v s (subst (λ (x : View). Can (busy x) s) (sym first) can)
+
+busy_thread : (v : View) → HasThread (busy v) 0
+busy_thread v = (no_known, (0, omega arith, refl), refl)
+
+none_within : (c : ℕ) → Contains [] c → ⊥
+none_within c h = let within : h.0 < 0 = h.1 in omega arith
+
+pub asks_cell_load : (says : Step → Answer → Type 0) (limits : Limits) (v : View) → limits.cells ≡ 16 → v ≡ first_view limits 2 0 → FirstAsks says v (CellLoad 0 Owner)
+asks_cell_load says limits v cells first = first_asks says limits v (CellLoad 0 Owner) first (omega arith)
+
+pub asks_cell_store : (says : Step → Answer → Type 0) (limits : Limits) (v : View) → limits.cells ≡ 16 → v ≡ first_view limits 2 0 → FirstAsks says v (CellStore 0 Value 7)
+asks_cell_store says limits v cells first = first_asks says limits v (CellStore 0 Value 7) first (omega arith, (busy_thread (first_view limits 2 0), λ full. none_within 0 full))
+
+pub asks_cell_change : (says : Step → Answer → Type 0) (limits : Limits) (v : View) → limits.cells ≡ 16 → v ≡ first_view limits 2 0 → FirstAsks says v (CellChange 0 0 4294967296)
+asks_cell_change says limits v cells first = first_asks says limits v (CellChange 0 0 4294967296) first (omega arith, inr (inl (inr (busy_thread (first_view limits 2 0)), (λ e. omega arith), refl)))
+
+pub asks_stop_set : (says : Step → Answer → Type 0) (limits : Limits) (v : View) → v ≡ first_view limits 2 0 → FirstAsks says v (StopSet 2)
+asks_stop_set says limits v first = first_asks says limits v (StopSet 2) first (inr (inl refl))
+
+pub asks_request_load : (says : Step → Answer → Type 0) (limits : Limits) (v : View) → v ≡ first_view limits 2 0 → FirstAsks says v (RequestLoad 1)
+asks_request_load says limits v first = first_asks says limits v (RequestLoad 1) first (omega arith)
+
+pub asks_request_change : (says : Step → Answer → Type 0) (limits : Limits) (v : View) → v ≡ first_view limits 2 0 → FirstAsks says v (RequestChange 1 0 1)
+asks_request_change says limits v first = first_asks says limits v (RequestChange 1 0 1) first (omega arith, inl ((λ e. omega arith), refl, omega arith, refl, refl, refl))
+
+pub asks_mail_store : (says : Step → Answer → Type 0) (limits : Limits) (v : View) → v ≡ first_view limits 2 0 → FirstAsks says v (MailStore 0 1)
+asks_mail_store says limits v first = first_asks says limits v (MailStore 0 1) first (omega arith, inl (refl, refl, refl, omega arith))
+
+pub asks_out_store : (says : Step → Answer → Type 0) (v : View) → FirstAsks says v (OutStore 3 321)
+asks_out_store says v = busy_asks says v (OutStore 3 321) (omega arith, busy_thread v, (0, 65, omega arith, refl))
+
+pub asks_out_load : (says : Step → Answer → Type 0) (v : View) → FirstAsks says v (OutLoad 1048575)
+asks_out_load says v = busy_asks says v (OutLoad 1048575) (omega arith)
+
+pub asks_slot_put : (says : Step → Answer → Type 0) (limits : Limits) (v : View) (chain : Chain) → limits.cells ≡ 16 → v ≡ first_view limits 2 0 → chain.cell ≡ 5 → FirstAsks says v (SlotPut (Cell 5) chain no_load)
+asks_slot_put says limits v chain cells first at = first_asks says limits v (SlotPut (Cell 5) chain no_load) first (omega arith, (at, (busy_chain, (0, omega arith, refl), refl)), omega arith, omega arith)

@@ -26,12 +26,12 @@ impl Next for Plainly {
     ghost load = { λ _ _ _. no_load };
 }
 
-/// Names the view after a step of a worker that has come to hold the root's thread, a chain in its turn and an exported frame, whose return
-/// word is the second word of its stack.
+/// Names the view after a step of a worker that has come to hold the root's thread, the chain of cell 5 in its turn and an exported frame,
+/// whose return word is the second word of its stack.
 struct Busy;
 
 impl Next for Busy {
-    ghost after = { λ v s a. named (record { threads = no_known ∷ []; items = 0; frame_bytes = 0 }) (with_free (record { progress = record { threads = no_known ∷ []; items = 0; frame_bytes = 0 }; chains = no_load.carried ∷ []; names = []; exported = record { low = 0x8000_0000; base = 0x8000_0010 } ∷ [] }) v) s a };
+    ghost after = { λ v s a. named (record { threads = no_known ∷ []; items = 0; frame_bytes = 0 }) (with_free (record { progress = record { threads = no_known ∷ []; items = 0; frame_bytes = 0 }; chains = record no_load.carried { known = record no_known { note = record { cell = 5; forks = 0; counters = 0; bytes = 0 } } } ∷ []; names = []; exported = record { low = 0x8000_0000; base = 0x8000_0010 } ∷ [] }) v) s a };
 
     ghost load = { λ _ _ _. no_load };
 }
@@ -62,7 +62,9 @@ fn counted() -> u64
     131_072
 }
 
-fn chain(cell: u32) -> Chain {
+fn chain(cell: u32) -> Chain
+    ensures { result.cell ≡ cell }
+{
     Chain {
         cell,
         pc: 0x1_0000,
@@ -95,6 +97,98 @@ fn a_board_steps_on_a_stack(rt: HostRuntime) -> Result<(), Fail> {
     board.mark::<Busy>(0, 1);
     assert_eq!(rt; board.look::<Busy>(0, 1), 0);
     assert_eq!(rt; board.words.stack.as_slice().get(1), Some(&0));
+    Ok(())
+}
+
+#[test]
+fn a_board_loads_a_cell(rt: HostRuntime) -> Result<(), Fail> {
+    let limits = small();
+    let mut board = fresh(rt.alloc(), &limits)?;
+    assert_eq!(rt; board.cell_load::<Busy>(0, 0, CellWord::Owner), 1);
+    Ok(())
+}
+
+#[test]
+fn a_board_stores_to_a_cell(rt: HostRuntime) -> Result<(), Fail> {
+    let limits = small();
+    let mut board = fresh(rt.alloc(), &limits)?;
+    board.cell_store::<Busy>(0, 0, CellWord::Value, 7);
+    assert_eq!(rt; board.words.values.as_slice().get(0), Some(&7));
+    Ok(())
+}
+
+#[test]
+fn a_board_changes_a_cell(rt: HostRuntime) -> Result<(), Fail> {
+    let limits = small();
+    let mut board = fresh(rt.alloc(), &limits)?;
+    assert_eq!(rt; board.cell_change::<Busy>(0, 0, 0, 4_294_967_296), Ok(()));
+    assert_eq!(rt; board.words.states.as_slice().get(0), Some(&4_294_967_296));
+    Ok(())
+}
+
+#[test]
+fn a_board_is_stopped(rt: HostRuntime) -> Result<(), Fail> {
+    let limits = small();
+    let mut board = fresh(rt.alloc(), &limits)?;
+    assert_eq!(rt; board.stop_set::<Busy>(0, 2), Ok(()));
+    assert_eq!(rt; board.words.stop, 2);
+    Ok(())
+}
+
+#[test]
+fn a_board_loads_a_request(rt: HostRuntime) -> Result<(), Fail> {
+    let limits = small();
+    let mut board = fresh(rt.alloc(), &limits)?;
+    assert_eq!(rt; board.request_load::<Busy>(0, 1), 0);
+    Ok(())
+}
+
+#[test]
+fn a_board_changes_a_request(rt: HostRuntime) -> Result<(), Fail> {
+    let limits = small();
+    let mut board = fresh(rt.alloc(), &limits)?;
+    assert_eq!(rt; board.request_change::<Busy>(0, 1, 0, 1), Ok(()));
+    assert_eq!(rt; board.words.requests.as_slice().get(1), Some(&1));
+    Ok(())
+}
+
+#[test]
+fn a_board_stores_mail(rt: HostRuntime) -> Result<(), Fail> {
+    let limits = small();
+    let mut board = fresh(rt.alloc(), &limits)?;
+    board.mail_store::<Busy>(0, 0, 1);
+    assert_eq!(rt; board.words.mail.as_slice().get(0), Some(&1));
+    Ok(())
+}
+
+#[test]
+fn a_board_prints(rt: HostRuntime) -> Result<(), Fail> {
+    let limits = small();
+    let mut board = fresh(rt.alloc(), &limits)?;
+    board.out_store::<Busy>(0, 3, 256 + 65);
+    assert_eq!(rt; board.words.out.as_slice().get(3), Some(&321));
+    Ok(())
+}
+
+#[test]
+fn a_board_loads_a_byte(rt: HostRuntime) -> Result<(), Fail> {
+    let limits = small();
+    let mut board = fresh(rt.alloc(), &limits)?;
+    assert_eq!(rt; board.out_load::<Busy>(0, 1_048_575), 0);
+    Ok(())
+}
+
+#[test]
+fn a_chain_is_put_on_a_board(rt: HostRuntime) -> Result<(), Fail> {
+    let limits = small();
+    let mut board = fresh(rt.alloc(), &limits)?;
+    board.slot_put::<Busy>(0, Slot::Cell(5), chain(5));
+    assert!(rt;
+        matches!(
+            board.words.cell_slots.as_slice().get(5),
+            Some(Some(Chain { cell: 5, .. }))
+        )
+    );
     Ok(())
 }
 

@@ -1,0 +1,6 @@
+use Rattle.st_words.specs.Plain.{Exact, view_at}
+use Rattle.st_words.proofs.Trying.{asks_out_store}
+use Rattle.st_words.proofs.tests.a_board_prints.Goals as goal
+
+pub out_store-requires-clause-may : goal.out_store-requires-clause-may
+out_store-requires-clause-may g c = asks_out_store (Exact c.in_ok-board.board.words c.in_ok-board.board.kept.loads 0) (view_at c.in_ok-board.board.kept.views 0)
