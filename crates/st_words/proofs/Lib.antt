@@ -13,3 +13,4 @@ pub mod Loading
 pub mod Hands
 pub mod Leases
 pub mod Trying
+pub mod Rooting

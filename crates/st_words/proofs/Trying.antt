@@ -1,5 +1,6 @@
 -- What a test shows that makes steps of a board on which its worker has come to hold a thread, a chain in its turn and an exported frame
--- (busy): that a step may be asked there (busy_asks), and that a held word is held behind stores and loads.
+-- (busy): that a step may be asked there (busy_asks), and that a held word is held behind stores and loads. For the first step of a board of
+-- 16 cells and two workers there is one for each kind of step that is tried: asks_cell_load and so on.
 use Rattle.std.proofs.Common.{ℕ, ◌<◌, ◌/◌, ◌≡◌, ◌∷◌, [], length, Some, inl, inr, refl, sym, ap, ◌∙◌, subst, arith}
 use Rattle.std.specs.List.{Contains}
 use Rattle.st_base.specs.declared.limits.Limits.{Limits}

@@ -1,5 +1,5 @@
 //! Each step once, with the words that it leaves: over the words alone, where the numbers come from the table of words in docs/board.md, and
-//! the draws over a board.
+//! over a board.
 ghost use Rattle.std.specs.Prelude.{◌≡◌, ◌<◌, ◌∷◌, [], length, IfOk};
 ghost use Rattle.st_words.specs.Encodings.{counter_word, count_after, count_in};
 ghost use Rattle.st_words.specs.Laws.{named, progress_of};
@@ -86,6 +86,18 @@ fn fresh(alloc: Global, limits: &Limits) -> Result<PlainBoard, AllocError>
     ensures serves { IfOk result (λ board. 0 < length board.kept.views) }
 {
     PlainBoard::open::<Brand>(alloc, limits, 2)
+}
+
+/// A board of two workers with these limits, whose first worker has taken the root's chain.
+fn rooted(alloc: Global, limits: &Limits) -> Result<PlainBoard, AllocError>
+    requires cells { 0 < limits.now.cells }
+    ensures share { IfOk result (λ board. (view_at board.kept.views 0).share ≡ 1) }
+    ensures serves { IfOk result (λ board. 0 < length board.kept.views) }
+{
+    let mut board = PlainBoard::open::<Brand>(alloc, limits, 2)?;
+    board.root_take::<Plainly>(0);
+    board.slot_take::<Plainly>(0, Slot::Cell(0));
+    Ok(board)
 }
 
 #[test]
@@ -189,6 +201,15 @@ fn a_chain_is_put_on_a_board(rt: HostRuntime) -> Result<(), Fail> {
             Some(Some(Chain { cell: 5, .. }))
         )
     );
+    Ok(())
+}
+
+#[test]
+fn a_board_counts_what_is_active(rt: HostRuntime) -> Result<(), Fail> {
+    let limits = small();
+    let mut board = rooted(rt.alloc(), &limits)?;
+    assert_eq!(rt; board.active_add::<Plainly>(0, true), 1);
+    assert_eq!(rt; board.words.active, 2);
     Ok(())
 }
 
