@@ -95,6 +95,7 @@ impl Op {
     ghost use Rattle.st_rv.specs.Op.{kind_of};
 
     /// What the operation does.
+    #[inline(always)]
     pub fn kind(self) -> OpKind
         ensures { result ≡ kind_of self }
     {

@@ -1,6 +1,7 @@
 //! Carries out what an instruction does, on the machine in place and on the board.
-ghost use Rattle.std.specs.Prelude.{◌≡◌, ◌≢◌, ◌+◌, ℕ};
-ghost use Rattle.st_step.specs.Moves.{written, at_place, goes_on, results, MayMove, Moves};
+ghost use Rattle.std.specs.Prelude.{◌≡◌, ◌≢◌, ◌+◌, ◌<◌, ℕ};
+ghost use Rattle.st_rv.specs.Results.{access_size, extended};
+ghost use Rattle.st_step.specs.Moves.{written, at_place, bytes_of, goes_on, results, MayMove, Moves};
 ghost use Rattle.st_step.specs.Acts.{move_by};
 ghost use Rattle.st_words.specs.Steps.{Asks};
 
@@ -9,8 +10,21 @@ use crate::bytes::bytes_of;
 use crate::machine::StepEnd;
 use crate::state::State;
 use st_base::reg::Reg;
+use st_rv::ins::Op;
 use st_rv::results::{access_size, extended};
 use st_words::board::{Board, Next};
+
+/// What a load gives of a word, from its byte `at` on: a whole word, as most loads take, at once.
+#[tactic(auto, unfolding(st_rv::specs::Results::access_size, st_rv::specs::Results::extended))]
+fn loaded(op: Op, word: u64, at: u64) -> u64
+    requires { at < 8 }
+    ensures { result ≡ extended op (bytes_of word at (access_size op)) }
+{
+    if at == 0 && matches!(op, Op::Ld) {
+        return word;
+    }
+    extended(op, bytes_of(word, at, access_size(op)))
+}
 
 impl State {
     /// Writes a register; a write to `zero` changes nothing.
@@ -79,10 +93,7 @@ impl State {
                 address,
             } => {
                 let word = board.stack_load::<N>(w, place);
-                self.put(
-                    rd,
-                    extended(op, bytes_of(word, address % 8, access_size(op))),
-                );
+                self.put(rd, loaded(op, word, address % 8));
             }
             Act::Fetch { place } => {
                 let word = board.stack_load::<N>(w, place);

@@ -1,8 +1,8 @@
 //! What an instruction does on the machine as it stands: one function for each kind, by the definition of that kind.
-ghost use Rattle.std.specs.Prelude.{◌≡◌, ◌==◌, IsTrue, true};
+ghost use Rattle.std.specs.Prelude.{◌≡◌, ◌==◌, ◌≤◌, IsTrue, true};
 ghost use Rattle.st_base.specs.Reg.{reg_number};
 ghost use Rattle.st_rv.specs.Op.{op_number};
-ghost use Rattle.st_rv.specs.Results.{computes, access_size};
+ghost use Rattle.st_rv.specs.Results.{alu, computes, access_size};
 ghost use Rattle.st_model.specs.Memory.{data_of};
 ghost use Rattle.st_step.specs.declared.state.State.{State};
 ghost use Rattle.st_step.specs.Moves.{from_pc, next_pc, register_move, makes_frame, frame_of, lacks_room, immediate_move, upper_move, stack_load, data_load, load_move, is_mark, word_store, short_store, stack_store, store_move, branch_move, indirect_move, jump_move, move_of, in_one_word};
@@ -34,13 +34,25 @@ fn from_pc(pc: u32, offset: i64) -> u32
 
 // ---- results
 
+/// The result of an instruction on two numbers: sums, which are the most of them, at once.
+#[tactic(auto, unfolding(st_rv::specs::Results::alu))]
+fn result_of(op: Op, a: u64, b: u64) -> u64
+    requires { IsTrue (computes op) }
+    ensures { result ≡ alu op a b }
+{
+    match op {
+        Op::Add | Op::Addi => a.wrapping_add(b),
+        _ => alu(op, a, b),
+    }
+}
+
 fn register_act(m: &State, i: Ins) -> Act
     requires { IsTrue (computes i.op) }
     ensures { move_by m.now result ≡ register_move m.now i }
 {
     Act::Result {
         rd: i.rd,
-        value: alu(i.op, m.read(i.rs1), m.read(i.rs2)),
+        value: result_of(i.op, m.read(i.rs1), m.read(i.rs2)),
     }
 }
 
@@ -84,7 +96,7 @@ fn immediate_act(m: &State, i: Ins) -> Act
     }
     Act::Result {
         rd: i.rd,
-        value: alu(i.op, m.read(i.rs1), word_of(i.imm)),
+        value: result_of(i.op, m.read(i.rs1), word_of(i.imm)),
     }
 }
 
@@ -100,10 +112,22 @@ fn upper_act(i: Ins) -> Act
 
 // ---- loads
 
+/// The bytes that an access moves: those of whole words, which are the most of them, at once.
+#[tactic(auto, unfolding(st_rv::specs::Results::access_size))]
+fn size_of(op: Op) -> usize
+    ensures is { result ≡ access_size op }
+    ensures most { result ≤ 8 }
+{
+    match op {
+        Op::Ld | Op::Sd => 8,
+        _ => access_size(op),
+    }
+}
+
 fn stack_load(i: Ins, address: u64) -> Act
     ensures { (m : State) → move_by m result ≡ stack_load m i address }
 {
-    let size = access_size(i.op);
+    let size = size_of(i.op);
     if !in_one_word(address, size) {
         return Act::Outside;
     }
@@ -167,7 +191,7 @@ fn short_store(m: &State, i: Ins, address: u64) -> Act
     requires { in_one_word address (access_size i.op) ≡ true }
     ensures { move_by m.now result ≡ short_store m.now i address m.now.half }
 {
-    let size = access_size(i.op);
+    let size = size_of(i.op);
     let place = place_of(address);
     match m.half {
         None => Act::Fetch { place },
@@ -181,7 +205,7 @@ fn short_store(m: &State, i: Ins, address: u64) -> Act
 fn stack_store(m: &State, i: Ins, address: u64) -> Act
     ensures { move_by m.now result ≡ stack_store m.now i address }
 {
-    let size = access_size(i.op);
+    let size = size_of(i.op);
     if !in_one_word(address, size) {
         return Act::Outside;
     }
