@@ -5,14 +5,16 @@ use Rattle.st_asm.specs.Labels.{Located, lines_of, numbered, located}
 use Rattle.st_asm.proofs.Keeping.{IsApart}
 use Rattle.st_asm.proofs.Kept.{AreApart}
 
-record IsFrom (file n : ℕ) (l : Located) : Type 0 where
+-- a line of this file, not before this number
+pub record IsFrom (file n : ℕ) (l : Located) : Type 0 where
   pub own : l.line.file ≡ file
   pub later : n ≤ l.line.line
 
-record IsOf (file : ℕ) (l : Located) : Type 0 where
+-- a line of this file or a later one
+pub record IsOf (file : ℕ) (l : Located) : Type 0 where
   pub later : file ≤ l.line.file
 
-numbered-from : (file n : ℕ) (ts : List (List ℕ)) → All (IsFrom file n) (numbered file n ts)
+pub numbered-from : (file n : ℕ) (ts : List (List ℕ)) → All (IsFrom file n) (numbered file n ts)
 numbered-from file n [] = All-nil (IsFrom file n)
 numbered-from file n (t ∷ ts) = All-cons (IsFrom file n) _ (numbered file (n + 1) ts) (record { own = refl; later = omega arith })
     (All-weaker (IsFrom file (n + 1)) (IsFrom file n) (λ l h. record { own = h.own; later = let b = h.later in omega arith }) (numbered file (n + 1) ts) (numbered-from file (n + 1) ts))
@@ -24,7 +26,7 @@ numbered-apart file n (t ∷ ts) = (
   numbered-apart file (n + 1) ts,
 )
 
-located-of : (file : ℕ) (texts : List (List ℕ)) → All (IsOf file) (located file texts)
+pub located-of : (file : ℕ) (texts : List (List ℕ)) → All (IsOf file) (located file texts)
 located-of file [] = All-nil (IsOf file)
 located-of file (t ∷ ts) = All-append (IsOf file) (numbered file 1 (lines_of t)) (located (file + 1) ts)
     (All-weaker (IsFrom file 1) (IsOf file) (λ l h. record { later = let e = h.own in omega arith }) (numbered file 1 (lines_of t)) (numbered-from file 1 (lines_of t)))

@@ -1,4 +1,5 @@
--- Every statement keeps what every unit has (Keeps-stated), and so does every line: what all lines make has it (Keeps-lines).
+-- Every statement keeps what every unit has (Keeps-stated), and so does every line: what all lines make has it (Keeps-lines). What one line
+-- makes is taken apart by checked_line-made.
 use Rattle.std.proofs.Common.{ℕ, ◌≡◌, ◌+◌, ◌≤◌, ◌<◌, ◌^◌, nat_le, Bool, true, false, List, [], ◌∷◌, ◌++◌, length, map, Option, Some, None, Result, Ok, Err, refl, ap, sym, subst, ◌∙◌, arith, All, length-append, append-nil, inl, inr}
 use Rattle.std.specs.Prelude.{slice_get, sum_by}
 use Rattle.std.proofs.lemmas.List.{map-append}
@@ -199,24 +200,43 @@ pub record IsSmall (a : Assembly) : Type 0 where
 small-from_test : (a : Assembly) → is_small a ≡ true → IsSmall a
 small-from_test a e = let p = both_true (nat_le a.instructions 65536) (nat_le (length a.rodata) 1048576) e in record { few = at_most _ 65536 p.0; short = at_most _ 1048576 p.1 }
 
-Keeps-line : (ds : List Definition) (l : Located) (ls : List Located) (a b : Assembly) → checked_line ds a l ≡ Ok b → All (λ m. IsApart l.line m.line) ls → Keeps ds (l ∷ ls) a → Keeps ds ls b × IsSmall b
+-- what a line without a fault makes
+pub record IsMade (ds : List Definition) (l : Located) (a b : Assembly) : Type 0 where
+  pub statement : Option Statement
+  pub read : line_statement (labelled l.line (line_label l.text) (begin_line l.line a)).standing l.text ≡ Ok statement
+  pub single : is_single ds l.line (line_label l.text) ≡ true
+  pub small : is_small (stated l.line statement (labelled l.line (line_label l.text) (begin_line l.line a))) ≡ true
+  pub same : stated l.line statement (labelled l.line (line_label l.text) (begin_line l.line a)) ≡ b
+
+pub checked_line-made : (ds : List Definition) (l : Located) (a b : Assembly) → checked_line ds a l ≡ Ok b → IsMade ds l a b
 unfolding checked_line
-Keeps-line ds l ls a b e apart k =
+checked_line-made ds l a b e =
     let c : Assembly = labelled l.line (line_label l.text) (begin_line l.line a) in
     let s = bind-ok (line_statement c.standing l.text) (λ statement. require (is_single ds l.line (line_label l.text)) DoubleLabel >>= λ single. require (is_known ds l.line.file (name_given statement)) NoLabel >>= λ known. require (is_small (stated l.line statement c)) TooLarge >>= λ small. Ok (stated l.line statement c)) b e in
     let single = bind-ok (require (is_single ds l.line (line_label l.text)) DoubleLabel) (λ single. require (is_known ds l.line.file (name_given s.0)) NoLabel >>= λ known. require (is_small (stated l.line s.0 c)) TooLarge >>= λ small. Ok (stated l.line s.0 c)) b s.2 in
     let known = bind-ok (require (is_known ds l.line.file (name_given s.0)) NoLabel) (λ known. require (is_small (stated l.line s.0 c)) TooLarge >>= λ small. Ok (stated l.line s.0 c)) b single.2 in
     let small = bind-ok (require (is_small (stated l.line s.0 c)) TooLarge) (λ small. Ok (stated l.line s.0 c)) b known.2 in
-    let placed = Keeps-labelled ds l ls (line_label l.text) (begin_line l.line a) (require-ok _ DoubleLabel single.0 single.1) (line_label-is_name l.text) apart (Keeps-begin_line ds (l ∷ ls) l.line a k) in
-    let done = Keeps-stated ds ls l.line s.0 c (line_statement-read c.standing l.text s.0 s.1) placed in
-    let same : stated l.line s.0 c ≡ b = ok-same _ b small.2 in
-    (subst (Keeps ds ls) same done, subst IsSmall same (small-from_test (stated l.line s.0 c) (require-ok _ TooLarge small.0 small.1)))
+    record {
+      statement = s.0;
+      read = s.1;
+      single = require-ok _ DoubleLabel single.0 single.1;
+      small = require-ok _ TooLarge small.0 small.1;
+      same = ok-same _ b small.2;
+    }
 
-then_lines-ok : (line : Line) (rest : Assembly → Result Assembly AsmFault) (r : Result Assembly AsmKind) (b : Assembly) → then_lines line rest r ≡ Ok b → (a : Assembly) × (r ≡ Ok a) × (rest a ≡ Ok b)
+Keeps-line : (ds : List Definition) (l : Located) (ls : List Located) (a b : Assembly) → checked_line ds a l ≡ Ok b → All (λ m. IsApart l.line m.line) ls → Keeps ds (l ∷ ls) a → Keeps ds ls b × IsSmall b
+Keeps-line ds l ls a b e apart k =
+    let made = checked_line-made ds l a b e in
+    let c : Assembly = labelled l.line (line_label l.text) (begin_line l.line a) in
+    let placed = Keeps-labelled ds l ls (line_label l.text) (begin_line l.line a) made.single (line_label-is_name l.text) apart (Keeps-begin_line ds (l ∷ ls) l.line a k) in
+    let done = Keeps-stated ds ls l.line made.statement c (line_statement-read c.standing l.text made.statement made.read) placed in
+    (subst (Keeps ds ls) made.same done, subst IsSmall made.same (small-from_test (stated l.line made.statement c) made.small))
+
+pub then_lines-ok : (line : Line) (rest : Assembly → Result Assembly AsmFault) (r : Result Assembly AsmKind) (b : Assembly) → then_lines line rest r ≡ Ok b → (a : Assembly) × (r ≡ Ok a) × (rest a ≡ Ok b)
 then_lines-ok line rest (Ok a) b e = (a, refl, e)
 then_lines-ok line rest (Err kind) b e = let no : ⊥ = cc in absurd no
 
-fault-same : (a b : Assembly) → ◌≡◌ {A = Result Assembly AsmFault} (Ok a) (Ok b) → a ≡ b
+pub fault-same : (a b : Assembly) → ◌≡◌ {A = Result Assembly AsmFault} (Ok a) (Ok b) → a ≡ b
 fault-same a b e = cc
 
 pub Keeps-lines : (ds : List Definition) (ls : List Located) (a b : Assembly) → checked_lines ds a ls ≡ Ok b → AreApart ls → Keeps ds ls a → IsSmall a → Keeps ds [] b × IsSmall b

@@ -11,3 +11,5 @@ pub mod Keeping
 pub mod Kept
 pub mod Apartness
 pub mod FaultFiles
+pub mod InOrder
+pub mod LineOrder

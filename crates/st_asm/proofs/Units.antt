@@ -18,12 +18,13 @@ use Rattle.st_asm.specs.declared.unit.Function.{Function}
 use Rattle.std.specs.Str.{bytes_eq}
 use Rattle.st_asm.specs.Labels.{Located, Definition, definitions_of, located, scope_of}
 use Rattle.st_asm.specs.Assembly.{Label, Assembly, checked_lines, nothing, too_long, functions_in, parts_in, target_at, found_or, target_in, ins_in, item_in, function_in, weight, Parts, unit_from, unit_when, unit_of}
-use Rattle.st_asm.specs.Unit.{IsTarget, IsInstruction, IsFunction, instructions_in, IsUnit}
+use Rattle.st_asm.specs.Unit.{IsTarget, IsInstruction, IsFunction, instructions_in, IsEarlier, item_lines, IsUnit}
 use Rattle.st_asm.specs.Reading.{IsShort, IsUnitIn}
 use Rattle.st_asm.proofs.ReadSteps.{IsNamed, IsRead}
 use Rattle.st_asm.proofs.Keeping.{Head, head_of, IsFine, on_target, IsLabelled, Keeps}
 use Rattle.st_asm.proofs.Kept.{IsSmall, Keeps-lines, Keeps-nothing}
 use Rattle.st_asm.proofs.Apartness.{AreApart-located}
+use Rattle.st_asm.proofs.LineOrder.{items-ordered, lines-placed}
 
 -- ---- short texts
 
@@ -134,8 +135,8 @@ distinct_names labels fs h = λ i j d o b same.
     let inside = subst (λ n. j < n) (length-map fs (function_in labels) ∙ sym (length-map fs head_of)) b in
     h i j (head_of d) o inside (sym (head_at labels fs i d) ∙ same ∙ head_at labels fs j d)
 
-is_unit : (ds : List Definition) (a : Assembly) → Keeps ds [] a → IsSmall a → IsUnit (map (function_in a.labels) (functions_in a)) a.rodata
-is_unit ds a k small =
+is_unit : (ds : List Definition) (a : Assembly) → Keeps ds [] a → IsSmall a → AllPairs IsEarlier (item_lines (functions_in a)) → IsUnit (map (function_in a.labels) (functions_in a)) a.rodata
+is_unit ds a k small ordered =
     subst (λ fs. IsUnit (map (function_in a.labels) fs) a.rodata) (sym k.same) (record {
       each = All-map (IsFunction (map (function_in a.labels) k.fs) a.rodata) (function_in a.labels) k.fs
           (All-weaker IsFine (λ f. IsFunction (map (function_in a.labels) k.fs) a.rodata (function_in a.labels f)) (λ f h. function_in-function a k.fs (length a.functions) a.marked k.labels f h) k.fs k.each);
@@ -146,6 +147,7 @@ is_unit ds a k small =
           let u = small.few in
           omega arith;
       bytes = small.short;
+      ordered = subst (AllPairs IsEarlier) (sym (lines-placed a.labels k.fs)) (subst (λ fs. AllPairs IsEarlier (item_lines fs)) k.same ordered);
     })
 
 is_unit-from_lines : (texts : List (List ℕ)) (a : Assembly) → checked_lines (definitions_of (located 1 texts)) nothing (located 1 texts) ≡ Ok a → IsUnit (parts_in a).functions (parts_in a).rodata
@@ -153,7 +155,7 @@ is_unit-from_lines texts a e =
     let lines = located 1 texts in
     let start = Keeps-nothing (definitions_of lines) lines in
     let kept = Keeps-lines (definitions_of lines) lines nothing a e (AreApart-located 1 texts) start.0 start.1 in
-    is_unit (definitions_of lines) a kept.0 kept.1
+    is_unit (definitions_of lines) a kept.0 kept.1 (items-ordered texts (definitions_of lines) a e)
 
 -- what all lines make is a unit
 pub is_unit_in_from_views : (texts : List (List ℕ)) (views : List Located) (a : Assembly) → views ≡ located 1 texts → checked_lines (definitions_of views) nothing views ≡ Ok a → IsUnitIn (parts_in a)

@@ -1,5 +1,7 @@
--- What every unit has (IsUnit): ranges, distinct names, sizes, instructions that there are, and targets that lie in the unit.
-use Rattle.std.specs.Prelude.{◌≡◌, ℕ, ◌≤◌, ◌^◌, pos, neg_ℤ, ◌≤ℤ◌, ◌<ℤ◌, true, false, List, length, Some, All, AllPairs, slice_get, sum_by}
+-- What every unit has (IsUnit): ranges, distinct names, sizes, instructions that there are, targets that lie in the unit, and items in the
+-- order of files and lines (IsEarlier).
+use Rattle.std.specs.Prelude.{◌≡◌, ◌⊎◌, ℕ, ◌<◌, ◌≤◌, ◌^◌, pos, neg_ℤ, ◌≤ℤ◌, ◌<ℤ◌, true, false, List, [], ◌∷◌, ◌++◌, length, map, Some, All, AllPairs, slice_get, sum_by}
+use Rattle.st_base.specs.declared.line.Line.{Line}
 use Rattle.st_rv.specs.declared.ins.OpKind.TheVariants.{Branch as Branch', Jump as Jump'}
 use Rattle.st_rv.specs.Op.{kind_of}
 use Rattle.st_rv.specs.Rows.{FitsTable}
@@ -48,8 +50,19 @@ pub record IsFunction (functions : List Function) (rodata : List ℕ) (function 
 abbrev pub instructions_in : Function → ℕ
 instructions_in function = sum_by (λ item. weight item.ins) function.items
 
+-- one place in the sources is before another: in an earlier file, or on an earlier line of the same file
+abbrev pub IsEarlier : Line → Line → Type 0
+IsEarlier a b = (a.file < b.file) ⊎ ((a.file ≡ b.file) × (a.line < b.line))
+
+-- the lines of all items, in the order of functions and items
+abbrev pub item_lines : List Function → List Line
+item_lines [] = []
+item_lines (f ∷ fs) = map (λ item. item.line) f.items ++ item_lines fs
+
 pub record IsUnit (functions : List Function) (rodata : List ℕ) : Type 0 where
   pub each : All (IsFunction functions rodata) functions
   pub distinct : AllPairs (λ f g. f.name ≡ g.name → ⊥) functions
   pub instructions : sum_by instructions_in functions ≤ 65536
   pub bytes : length rodata ≤ 1048576
+  -- each item stands on a later line than those before it
+  pub ordered : AllPairs IsEarlier (item_lines functions)
