@@ -30,3 +30,4 @@ pub mod Weights
 pub mod ProgramItems
 pub mod UnitLines
 pub mod Sizes
+pub mod ItemOrder

@@ -1,21 +1,26 @@
 -- What is told of the first undefined read: the lines of its path (lines-more, read-inside), and what it is for the function and the program
 -- (read-told, told-first).
 use Rattle.std.proofs.Common.{◌≡◌, ◌∙◌, ◌⊎◌, inl, inr, ℕ, zero, suc, ◌+◌, ◌-◌, ◌<◌, ◌≤◌, List, [], ◌∷◌, ◌++◌, refl, ap, sym, subst, append_assoc, append-nil, map, drop, slice_get, get_or, length, reverse, Option, Some, arith}
-use Rattle.std.specs.Prelude.{All}
+use Rattle.std.specs.Prelude.{All, AllPairs}
+use Rattle.std.proofs.Math.Logic.{∥∥₁_elim}
 use Rattle.std.proofs.lemmas.List.{map-append, reverse-reverse, append-nil, length-reverse, get_or-reverse}
 use Rattle.std.proofs.lemmas.Bool.{cases_order}
 use Rattle.std.proofs.lemmas.Grind.{get_or_default_zero}
 use Rattle.std.proofs.lemmas.Option.{slice_get_within, slice_get_read}
 use Rattle.st_base.specs.declared.line.Line.{Line}
 use Rattle.st_base.specs.declared.form.FormKind.TheVariants.{UndefinedRead as UndefinedRead'}
+use Rattle.st_asm.specs.Unit.{IsEarlier}
+use Rattle.st_asm.proofs.LineOrder.{earlier-not_same, earlier-not_later}
+use Rattle.st_model.specs.declared.program.Item.{Item}
 use Rattle.st_model.specs.declared.program.Program.{Program}
 use Rattle.st_model.specs.declared.program.ProgramFunction.{ProgramFunction}
 use Rattle.st_model.specs.Flow.{Leads, UndefinedRead}
 use Rattle.st_flow.specs.Undefined.{ReadsPlace, LeavesUndefined, PassesOnce}
 use Rattle.st_check.specs.declared.fault.FormFault.{FormFault}
-use Rattle.st_check.specs.Acceptance.{line_of, lines_at, IsReadFault}
-use Rattle.st_check.specs.Reads.{IsToldOf, ReadsDefinedBelow, ReadsDefined}
+use Rattle.st_check.specs.Acceptance.{line_of, lines_at, IsFirstRead, IsReadFault, HasOrder}
+use Rattle.st_check.specs.Reads.{IsToldOf, IsFirstTold, ReadsDefinedBelow, ReadsDefined}
 use Rattle.st_check.proofs.Drops.{drop-read, drop-past}
+use Rattle.st_check.proofs.ItemOrder.{item_lines, items-earlier, order-inside, order-earlier}
 
 pub lines-more : (function : ProgramFunction) (path : List ℕ) (lines lines' : List Line) (i at : ℕ) (line : Line) → i < length path → at ≡ get_or path i 0 → Some line ≡ line_of (slice_get function.items at) → lines' ≡ lines ++ line ∷ [] → map Some lines ++ lines_at function (drop i path) ≡ lines_at function path → map Some lines' ++ lines_at function (drop (i + 1) path) ≡ lines_at function path
 lines-more function path lines lines' i at line inside here there grown known =
@@ -72,29 +77,53 @@ read-told p function at place path line lines reads leaves shape first here told
       once = subst (PassesOnce function place) turned shape;
     }
 
-none-earlier : (p : Program) (function other : ProgramFunction) (at : ℕ) → other ≡ function → ((read : UndefinedRead p function) → at ≤ read.at) → (read : UndefinedRead p other) → read.at < at → ⊥
-none-earlier p function other at same first read before =
-    let low : at ≤ read.at = subst (λ (it : ProgramFunction). (found : UndefinedRead p it) → at ≤ found.at) (sym same) first read in
-    omega (arith, low, before)
+-- an item with an undefined read, before the first one of its function
+not_earlier-in : (p : Program) (function : ProgramFunction) (bad : UndefinedRead p function) → ((read : UndefinedRead p function) → bad.at ≤ read.at) → AllPairs IsEarlier (item_lines function.items) → (read : UndefinedRead p function) → IsEarlier read.item.line bad.item.line → ⊥
+not_earlier-in p function bad first order read earlier =
+    let low : bad.at ≤ read.at = first read in
+    elim (cases_order read.at bad.at) [
+      | inl same ↦
+          let here : slice_get function.items bad.at ≡ Some read.item = subst (λ n. slice_get function.items n ≡ Some read.item) same read.here in
+          let there : slice_get function.items bad.at ≡ Some bad.item = bad.here in
+          let equal : read.item ≡ bad.item = cc in
+          earlier-not_same bad.item.line (subst (λ (item : Item). IsEarlier item.line bad.item.line) equal earlier)
+      | inr (inl before) ↦ omega (arith, low, before)
+      | inr (inr behind) ↦
+          earlier-not_later read.item.line bad.item.line earlier (items-earlier function.items bad.at read.at bad.item read.item order bad.here read.here behind)
+    ]
 
--- the function's first is the program's, where no function before it has one
-pub told-first : (p : Program) (f : ℕ) (function : ProgramFunction) (fault : FormFault) → slice_get p.functions f ≡ Some function → ReadsDefinedBelow p f → IsToldOf p function fault → IsReadFault p fault
-told-first p f function fault there below told = record {
-  f = f;
-  function = function;
-  there = there;
-  bad = told.bad;
-  first = record {
-    functions = λ g other before here. below g other before here;
-    items = λ other here read before.
-        let same : other ≡ function = cc in
-        none-earlier p function other told.bad.at same told.first read before;
-  };
-  kind = told.kind;
-  line = told.line;
-  path = told.path;
-  once = told.once;
-}
+-- no undefined read stands on an earlier line than the first one by the order of functions and items
+first-by_line : (p : Program) (fault : FormFault) → IsFirstTold p fault → HasOrder p → IsFirstRead p fault.line
+first-by_line p fault is order g function here read earlier =
+    let told = is.told in
+    let before : IsEarlier read.item.line told.bad.item.line = subst (IsEarlier read.item.line) told.line earlier in
+    elim (cases_order g is.f) [
+      | inl same ↦
+          let at : slice_get p.functions is.f ≡ Some function = subst (λ n. slice_get p.functions n ≡ Some function) same here in
+          let there : slice_get p.functions is.f ≡ Some is.function = is.there in
+          let equal : function ≡ is.function = cc in
+          let P : ProgramFunction → Type 0 = λ it. (other : UndefinedRead p it) → IsEarlier other.item.line told.bad.item.line → ⊥ in
+          subst P (sym equal) (not_earlier-in p is.function told.bad told.first (order-inside p.functions is.f is.function order is.there)) read before
+      | inr (inl less) ↦ is.below g function less here read
+      | inr (inr more) ↦
+          earlier-not_later read.item.line told.bad.item.line before
+          (order-earlier p.functions is.f g told.bad.at read.at is.function function told.bad.item read.item order is.there told.bad.here here read.here more)
+    ]
+
+-- what is told first by the order of functions and items is first by file and line
+pub told-first : (p : Program) (fault : FormFault) → ∥ HasOrder p ∥₁ → IsFirstTold p fault → IsReadFault p fault
+told-first p fault order is =
+    let prop : IsProp ⊥ = hlevel in record {
+      f = is.f;
+      function = is.function;
+      there = is.there;
+      bad = is.told.bad;
+      first = λ g function here bad earlier. ∥∥₁_elim order prop (λ o. first-by_line p fault is o g function here bad earlier);
+      kind = is.told.kind;
+      line = is.told.line;
+      path = is.told.path;
+      once = is.told.once;
+    }
 
 below-by : (p : Program) (f g : ℕ) (function other : ProgramFunction) → slice_get p.functions f ≡ Some function → (UndefinedRead p function → ⊥) → ReadsDefinedBelow p f → slice_get p.functions g ≡ Some other → UndefinedRead p other → (g < f) ⊎ (g ≡ f) → ⊥
 below-by p f g function other there none below here read (inl before) = below g other before here read

@@ -1,10 +1,11 @@
 -- When a unit is accepted (IsAcceptedUnit), and which fault is told where it isn't (IsFirstFault): the least of its faults of form; where
--- it has none, the first undefined read.
-use Rattle.std.specs.Prelude.{◌≡◌, ◌⊎◌, ℕ, ◌<◌, List, [], ◌∷◌, Option, Some, None, slice_get, map, reverse}
+-- it has none, the undefined read that is first by file and line.
+use Rattle.std.specs.Prelude.{◌≡◌, ◌⊎◌, ℕ, List, [], ◌∷◌, ◌++◌, Option, Some, None, slice_get, map, reverse, AllPairs}
 use Rattle.st_base.specs.declared.line.Line.{Line}
 use Rattle.st_base.specs.declared.form.FormKind.TheVariants.{UndefinedRead as UndefinedRead'}
 use Rattle.st_asm.specs.declared.unit.Function.{Function}
 use Rattle.st_asm.specs.declared.unit.SourceLine.{SourceLine}
+use Rattle.st_asm.specs.Unit.{IsEarlier}
 use Rattle.st_model.specs.declared.program.Item.{Item}
 use Rattle.st_model.specs.declared.program.Program.{Program}
 use Rattle.st_model.specs.declared.program.ProgramFunction.{ProgramFunction}
@@ -30,19 +31,18 @@ abbrev pub lines_at : ProgramFunction → List ℕ → List (Option Line)
 lines_at function [] = []
 lines_at function (i ∷ is) = line_of (slice_get function.items i) ∷ lines_at function is
 
--- no function before this one, and no item of it before this one, has an undefined read
-pub record IsFirstRead (p : Program) (f i : ℕ) : Type 0 where
-  pub functions : (g : ℕ) (function : ProgramFunction) → g < f → slice_get p.functions g ≡ Some function → UndefinedRead p function → ⊥
-  pub items : (function : ProgramFunction) → slice_get p.functions f ≡ Some function → (bad : UndefinedRead p function) → bad.at < i → ⊥
+-- no undefined read of the program stands on an earlier line
+abbrev pub IsFirstRead : Program → Line → Type 0
+IsFirstRead p line = (g : ℕ) (function : ProgramFunction) → slice_get p.functions g ≡ Some function → (bad : UndefinedRead p function) → IsEarlier bad.item.line line → ⊥
 
--- the fault is told of the first item that has an undefined read, and carries the lines of a path to it, which
+-- the fault is told of an item that has an undefined read, the first by file and line, and carries the lines of a path to it, which
 -- passes no item twice up to the last that takes the place's definition away, and none twice behind it
 pub record IsReadFault (p : Program) (fault : FormFault) : Type 0 where
   pub f : ℕ
   pub function : ProgramFunction
   pub there : slice_get p.functions f ≡ Some function
   pub bad : UndefinedRead p function
-  pub first : IsFirstRead p f bad.at
+  pub first : IsFirstRead p fault.line
   pub kind : fault.kind ≡ UndefinedRead'
   pub line : fault.line ≡ bad.item.line
   pub path : map Some fault.path ≡ lines_at function (reverse (bad.at ∷ bad.back))
@@ -74,6 +74,15 @@ IsErrorLine functions errors.OutOfMemory = Unit {0}
 -- each item of a program has one of the functions' lines
 abbrev pub HasUnitLines : List Function → Program → Type 0
 HasUnitLines functions p = (f i : ℕ) (function : ProgramFunction) (item : Item) → slice_get p.functions f ≡ Some function → slice_get function.items i ≡ Some item → IsUnitLine functions item.line
+
+-- the lines of all items of a program, in the order of functions and items
+abbrev pub program_lines : List ProgramFunction → List Line
+program_lines [] = []
+program_lines (f ∷ fs) = map (λ item. item.line) f.items ++ program_lines fs
+
+-- each item of a program stands on a later line than those before it
+abbrev pub HasOrder : Program → Type 0
+HasOrder p = AllPairs IsEarlier (program_lines p.functions)
 
 -- ---- refusals
 

@@ -1,4 +1,5 @@
--- What is told of undefined reads: the first of one function (IsToldOf), and that there are none in a program (ReadsDefined).
+-- What is told of undefined reads by the order of functions and items: the first of one function (IsToldOf), the first of a program
+-- (IsFirstTold), and that there are none in a program (ReadsDefined).
 use Rattle.std.specs.Prelude.{◌≡◌, ℕ, ◌<◌, ◌≤◌, ◌∷◌, Some, slice_get, map, reverse}
 use Rattle.st_base.specs.declared.form.FormKind.TheVariants.{UndefinedRead as UndefinedRead'}
 use Rattle.st_model.specs.declared.program.Program.{Program}
@@ -20,6 +21,14 @@ pub record IsToldOf (p : Program) (function : ProgramFunction) (fault : FormFaul
 -- the functions before a place have no undefined read
 abbrev pub ReadsDefinedBelow : Program → ℕ → Type 0
 ReadsDefinedBelow p end = (f : ℕ) (function : ProgramFunction) → f < end → slice_get p.functions f ≡ Some function → UndefinedRead p function → ⊥
+
+-- the fault is told of the first function that has an undefined read, and there of its first item
+pub record IsFirstTold (p : Program) (fault : FormFault) : Type 0 where
+  pub f : ℕ
+  pub function : ProgramFunction
+  pub there : slice_get p.functions f ≡ Some function
+  pub below : ReadsDefinedBelow p f
+  pub told : IsToldOf p function fault
 
 -- no function has an undefined read
 abbrev pub ReadsDefined : Program → Type 0

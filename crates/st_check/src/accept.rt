@@ -2,7 +2,7 @@
 ghost use Rattle.std.specs.Prelude.{◌≡◌, IfOk, IfErr};
 ghost use Rattle.st_model.specs.Accepted.{IsAccepted};
 ghost use Rattle.st_model.specs.Layout.{HasSize};
-ghost use Rattle.st_check.specs.Acceptance.{HasUnitLines, IsAcceptedUnit, IsErrorLine, IsRefusal};
+ghost use Rattle.st_check.specs.Acceptance.{HasOrder, HasUnitLines, IsAcceptedUnit, IsErrorLine, IsRefusal};
 ghost use Rattle.st_check.specs.Programs.{program_of as program_of'};
 
 use crate::error::FormError;
@@ -25,6 +25,7 @@ pub struct Checked<'u> {
     ghost is_accepted: { ∥ IsAccepted program ∥₁ },
     ghost has_size: { ∥ HasSize program ∥₁ },
     ghost has_lines: { ∥ HasUnitLines unit.now.functions program ∥₁ },
+    ghost has_order: { ∥ HasOrder program ∥₁ },
 }
 
 impl Checked<'_> {
@@ -46,7 +47,7 @@ impl Checked<'_> {
 /// The unit with its program, where it is accepted.
 ///
 /// Errors: the unit's first fault, where it has one, by its line and there by the least kind, undefined reads only where it has
-/// no other; or too little memory.
+/// no other, and the first of them by its line; or too little memory.
 pub fn check(alloc: Global, unit: &Unit) -> Result<Checked<'_>, FormError>
     ensures unit { IfOk result (λ checked. checked.unit.now ≡ unit.now) }
     ensures fault { IfErr result (IsRefusal unit.now.functions) }

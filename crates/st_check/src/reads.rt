@@ -3,8 +3,8 @@ ghost use Rattle.std.specs.Prelude.{◌≡◌, ◌<◌, ℕ, All, Some, length, 
 ghost use Rattle.st_model.specs.declared.program.ProgramFunction.{ProgramFunction as ProgramFunction'};
 ghost use Rattle.st_model.specs.Accepted.{IsFormed};
 ghost use Rattle.st_model.specs.Flow.{UndefinedRead};
-ghost use Rattle.st_check.specs.Acceptance.{line_of, lines_at, IsReadFault};
-ghost use Rattle.st_check.specs.Reads.{IsToldOf, ReadsDefined};
+ghost use Rattle.st_check.specs.Acceptance.{line_of, lines_at};
+ghost use Rattle.st_check.specs.Reads.{IsToldOf, IsFirstTold, ReadsDefined};
 
 use crate::fault::FormFault;
 use st_base::form::FormKind;
@@ -62,7 +62,7 @@ fn read_fault(
 /// The first undefined read of a program whose functions are formed; `None` where it has none.
 pub fn first_read_fault(alloc: Global, program: &Program) -> Result<Option<FormFault>, AllocError>
     requires { (f : ℕ) (function : ProgramFunction') → slice_get program.now.functions f ≡ Some function → IsFormed program.now function }
-    ensures told { IfOk result (λ r. IfSome r (IsReadFault program.now)) }
+    ensures told { IfOk result (λ r. IfSome r (IsFirstTold program.now)) }
     ensures none { IfOk result (λ r. IfNone r (ReadsDefined program.now)) }
 {
     let functions = program.functions.as_slice();
