@@ -8,3 +8,4 @@ mod PartsReady
 mod ItemsReady
 mod Assembled
 mod Rest
+pub mod FarLines

@@ -23,7 +23,7 @@ IsNear layout function at _ = Unit {0}
 
 -- ---- none among words
 
-none-of : (a b : Option (Line × ℤ)) → first_of a b ≡ None → (a ≡ None) × (b ≡ None)
+pub none-of : (a b : Option (Line × ℤ)) → first_of a b ≡ None → (a ≡ None) × (b ≡ None)
 none-of None b e = (refl, e)
 none-of (Some far) b e = cc
 

@@ -45,7 +45,7 @@ fn assemble(
 
 /// The image of postprocessed code.
 ///
-/// Errors: the first branch that doesn't reach, where there is one; or too little memory.
+/// Errors: the first branch that doesn't reach, by its line, where there is one; or too little memory.
 pub fn link(alloc: Global, posted: &Posted<'_>) -> Result<Image, LinkError>
     ensures image { IfOk result (IsImageOf Postprocessed posted.now.checked.now.program posted.now.checked.now.unit.now.rodata) }
     ensures fault { IfErr result (IsRefusal posted.now.checked.now.program) }
@@ -65,7 +65,7 @@ pub fn link(alloc: Global, posted: &Posted<'_>) -> Result<Image, LinkError>
 
 /// The image of the unchanged code of an accepted unit.
 ///
-/// Errors: the first branch that doesn't reach in the postprocessed code, where there is one; or too little memory.
+/// Errors: the first branch that doesn't reach in the postprocessed code, by its line, where there is one; or too little memory.
 pub fn link_plain(alloc: Global, checked: &Checked<'_>) -> Result<Image, LinkError>
     ensures image { IfOk result (IsImageOf Unchanged checked.now.program checked.now.unit.now.rodata) }
     ensures fault { IfErr result (IsRefusal checked.now.program) }

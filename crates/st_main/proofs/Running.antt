@@ -34,6 +34,8 @@ use Rattle.st_main.specs.Naming.{NamesAmong}
 use Rattle.st_main.specs.Reading.{HasRead}
 use Rattle.st_main.specs.Answer.{Seen, Intake, link_refusal, RefusesUnit, RefusesBy, IsRunnable, outcome_of_end, outcome_of_bounded, RunsTo, FailsToRead, IsInput, AnswersInput, AnswersTexts, AnswersRun, RunsOut}
 use Rattle.st_main.specs.Running.{IsImageOfUnit, IsImageOfTexts, IsImageOfFiles, EndsSo}
+use Rattle.st_asm.specs.Unit.{IsEarlier}
+use Rattle.st_link.specs.Refusal.{IsFar, IsFirstFar}
 use Rattle.st_main.proofs.Answering.{AnswersOutcome}
 use Rattle.st_main.proofs.OutcomeSets.{outcome-set, sums-set}
 use Rattle.st_main.proofs.ReadTexts.{read-same}
@@ -61,10 +63,14 @@ image-of_unit checked image is =
           ∥∥₁_map checked.has_size (λ size. subst (λ p. IsPlainImage p image) e (plain-image checked.program checked.unit.now.rodata image accepted size is))));
     }
 
-pub link-refused : (checked : Checked) (line : Line) (d : ℤ) (o : Outcome) → far_branch checked.program ≡ Some (line, d) → o ≡ link_refusal line d → RefusesUnit (parts_of checked.unit.now) o
+pub link-refused : (checked : Checked) (line : Line) (d : ℤ) (o : Outcome) → IsFirstFar checked.program line d → o ≡ link_refusal line d → RefusesUnit (parts_of checked.unit.now) o
 link-refused checked line d o far is =
-    let functions = checked.unit.now.functions in
-    inr (checked.is_accepted_unit, (line, d, ∥∥₁_elim checked.is_program (far-prop (program_of' functions) (Some (line, d))) (λ e. subst (λ p. far_branch p ≡ Some (line, d)) e far), is))
+    let p : Program = program_of' checked.unit.now.functions in
+    let prop : IsProp ⊥ = hlevel in
+    let branch : far_branch p ≡ Some (line, d) = ∥∥₁_elim checked.is_program (far-prop p (Some (line, d))) (λ e. subst (λ q. far_branch q ≡ Some (line, d)) e far.0) in
+    let first : (l : Line) (n : ℤ) → IsFar p l n → IsEarlier l line → ⊥ =
+    λ l n other earlier. ∥∥₁_elim checked.is_program prop (λ e. (subst (λ q. IsFirstFar q line d) e far).1 l n other earlier) in
+    inr (checked.is_accepted_unit, (line, d, (branch, first), is))
 
 -- ---- the outcome of a run
 

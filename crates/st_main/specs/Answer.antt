@@ -22,6 +22,7 @@ use Rattle.st_model.specs.declared.ordinary.OrdEnd.{OrdEnd}
 use Rattle.st_model.specs.declared.ordinary.OrdEnd.TheVariants as ends
 use Rattle.st_model.specs.Bounded.{Bounds, BoundedEnd, ended, past_steps, past_cells, past_stack, bounded_run}
 use Rattle.st_model.specs.Layout.{code_of, far_branch, AreWords}
+use Rattle.st_link.specs.Refusal.{IsFirstFar}
 use Rattle.st_model.specs.Memory.{data_of}
 use Rattle.st_jobs.specs.Commands.{Asked, Setting, setting, workers_id, job_of}
 use Rattle.st_main.specs.declared.exit.Exit.{Exit}
@@ -70,9 +71,9 @@ link_refusal line distance = record { exit = Refused; printed = []; fault = Some
 abbrev pub IsFormRefusal : List Function → Outcome → Type 0
 IsFormRefusal functions o = (fault : FormFault) × IsFirstFault functions fault × (IsAcceptedUnit functions → ⊥) × (o ≡ form_refusal fault)
 
--- an accepted unit with a branch that doesn't reach is refused at the first one
+-- an accepted unit with a branch that doesn't reach is refused at the first one by file and line
 abbrev pub IsLinkRefusal : List Function → Outcome → Type 0
-IsLinkRefusal functions o = (line : Line) × (distance : ℤ) × (far_branch (program_of' functions) ≡ Some (line, distance)) × (o ≡ link_refusal line distance)
+IsLinkRefusal functions o = (line : Line) × (distance : ℤ) × IsFirstFar (program_of' functions) line distance × (o ≡ link_refusal line distance)
 
 -- ---- the outcome of a run
 

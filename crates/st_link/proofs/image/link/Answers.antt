@@ -4,12 +4,14 @@ use Rattle.st_check.specs.declared.accept.Checked.{Checked}
 use Rattle.st_model.specs.declared.code.Layout.TheVariants.{Postprocessed}
 use Rattle.st_link.specs.Encoding.{told, IsEncodable, IsAssembled}
 use Rattle.st_link.proofs.Assembled.{checked-told, checked-encodable, checked-image}
+use Rattle.st_link.proofs.FarLines.{first-far}
 use Rattle.st_link.proofs.image.link.Goals as goal
 
 pub returns-in-Some-clause-fault : goal.returns-in-Some-clause-fault
 returns-in-Some-clause-fault c =
     let posted = c.args.posted.now in
-    checked-told posted.checked.now posted.code c.functions.result.now c.first_far.result posted.is_code c.functions.ensures c.first_far.ensures ∙ ap told c.in-Some.is
+    first-far posted.checked.now.program c.in-Some.fault.line c.in-Some.fault.distance posted.checked.now.has_order
+    (checked-told posted.checked.now posted.code c.functions.result.now c.first_far.result posted.is_code c.functions.ensures c.first_far.ensures ∙ ap told c.in-Some.is)
 
 pub assemble-requires : goal.assemble-requires
 assemble-requires c =

@@ -3,11 +3,13 @@ use Rattle.std.proofs.Common.{◌∙◌, ap}
 use Rattle.st_model.specs.declared.code.Layout.TheVariants.{Unchanged}
 use Rattle.st_link.specs.Encoding.{told}
 use Rattle.st_link.proofs.Assembled.{checked-told, checked-encodable, checked-image}
+use Rattle.st_link.proofs.FarLines.{first-far}
 use Rattle.st_link.proofs.image.link_plain.Goals as goal
 
 pub returns-in-Some-clause-fault : goal.returns-in-Some-clause-fault
 returns-in-Some-clause-fault c =
-    checked-told c.args.checked.now c.in_ok-processed.processed c.as_slice.result.now c.first_far.result c.in_ok-processed.ensures c.as_slice.ensures c.first_far.ensures ∙ ap told c.in-Some.is
+    first-far c.args.checked.now.program c.in-Some.fault.line c.in-Some.fault.distance c.args.checked.now.has_order
+    (checked-told c.args.checked.now c.in_ok-processed.processed c.as_slice.result.now c.first_far.result c.in_ok-processed.ensures c.as_slice.ensures c.first_far.ensures ∙ ap told c.in-Some.is)
 
 pub assemble-requires : goal.assemble-requires
 assemble-requires c =
