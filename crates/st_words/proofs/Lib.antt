@@ -14,3 +14,4 @@ pub mod Hands
 pub mod Leases
 pub mod Trying
 pub mod Rooting
+pub mod ZeroedLists

@@ -4,6 +4,7 @@
 //! - `calls` has its steps as calls of their own.
 //! - `laws` has what is known of the view after a step, for those who name it.
 //! - `words::Words` has the words and slots as a plain value, and what each step does to them.
+//! - `zeroed::ZeroedWords` has words that are 0 until they are stored, whose memory is touched late: those of the output.
 //! - `plain::PlainBoard` is the board over vectors, which serves all workers, one step at a time.
 #![tactic(auto)]
 
@@ -16,3 +17,4 @@ pub mod plain;
 mod tests;
 pub mod view;
 pub mod words;
+pub mod zeroed;

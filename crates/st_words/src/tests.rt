@@ -11,6 +11,7 @@ use crate::board::{Board, Next};
 use crate::plain::PlainBoard;
 use crate::view::{CellWord, Slot};
 use crate::words::Words;
+use crate::zeroed::ZeroedWords;
 use st_base::chain::{Chain, Note, Waiting};
 use st_base::limits::Limits;
 use std::alloc::{AllocError, Global};
@@ -178,7 +179,7 @@ fn a_board_prints(rt: HostRuntime) -> Result<(), Fail> {
     let limits = small();
     let mut board = fresh(rt.alloc(), &limits)?;
     board.out_store::<Busy>(0, 3, 256 + 65);
-    assert_eq!(rt; board.words.out.as_slice().get(3), Some(&321));
+    assert_eq!(rt; board.words.out.get(3), 321);
     Ok(())
 }
 
@@ -310,5 +311,23 @@ fn a_byte_is_printed(rt: HostRuntime) -> Result<(), Fail> {
     let mut words = opened(rt.alloc())?;
     words.out_store(1_048_575, 256 + 65);
     assert_eq!(rt; words.out_load(1_048_575), 321);
+    Ok(())
+}
+
+#[test]
+fn words_that_were_not_stored_are_zero(rt: HostRuntime) -> Result<(), Fail> {
+    let mut words = ZeroedWords::open(rt.alloc(), 8)?;
+    assert_eq!(rt; words.get(7), 0);
+    words.set(1, 10);
+    words.set(4, 40);
+    words.set(1, 11);
+    assert_eq!(rt; words.get(0), 0);
+    assert_eq!(rt; words.get(1), 11);
+    assert_eq!(rt; words.get(3), 0);
+    assert_eq!(rt; words.get(4), 40);
+    assert_eq!(rt; words.get(5), 0);
+    words.set(7, 70);
+    assert_eq!(rt; words.get(6), 0);
+    assert_eq!(rt; words.get(7), 70);
     Ok(())
 }

@@ -7,6 +7,7 @@ ghost use Rattle.st_words.specs.Plain.{cell_words, with_cell, in_slot, with_slot
 ghost use Rattle.st_words.specs.Sizes.{HasSlot};
 
 use crate::view::{CellWord, Slot};
+use crate::zeroed::ZeroedWords;
 use st_base::chain::{Chain, Note, Waiting};
 use st_base::limits::Limits;
 use st_base::lists::Listed;
@@ -36,8 +37,8 @@ pub struct Words {
     pub requests: Listed<u64>,
     /// The mail word of each worker.
     pub mail: Listed<u64>,
-    /// One word for each byte that may be printed.
-    pub out: Listed<u64>,
+    /// One word for each byte that may be printed. Memory is touched up to the last that was stored.
+    pub out: ZeroedWords,
     /// The slot of each cell.
     pub cell_slots: Listed<Option<Chain>>,
     /// The mail slot of each worker.
@@ -160,7 +161,7 @@ impl Words {
             root: 1,
             requests: zeros(alloc, workers)?,
             mail: zeros(alloc, workers)?,
-            out: zeros(alloc, out_count())?,
+            out: ZeroedWords::open(alloc, out_count())?,
             cell_slots: cell_slots(alloc, cells)?,
             mail_slots: empty_slots(alloc, workers)?,
         })
@@ -321,7 +322,7 @@ impl Words {
         requires { i < length self.now.out }
         ensures { slice_get self.now.out i ≡ Some result }
     {
-        self.out.as_slice()[i as usize]
+        self.out.get(i as usize)
     }
 
     /// Takes what lies in a slot; the slot is empty afterwards.
