@@ -1,8 +1,11 @@
 -- Instructions are decoded word by word. Read IsDecoded (those of a front of the words are found), decodes, must_decode.
-use Rattle.std.proofs.Common.{◌≡◌, ℕ, suc, ◌+◌, ◌<◌, ◌≤◌, List, [], ◌∷◌, ◌++◌, length, get_or, drop, Option, Some, None, refl, ap, ◌∙◌, sym, subst, arith, append_assoc}
+use Rattle.std.proofs.lemmas.Option.{slice_get-map}
+use Rattle.std.proofs.Common.{◌≡◌, ℕ, suc, ◌+◌, ◌<◌, ◌≤◌, slice_get, option_map, List, [], ◌∷◌, ◌++◌, length, get_or, drop, Option, Some, None, refl, ap, ◌∙◌, sym, subst, arith, append_assoc}
 use Rattle.std.proofs.Math.Seq.{drop-cons}
 use Rattle.std.proofs.lemmas.List.{drop_all, append-nil}
 use Rattle.st_rv.specs.declared.ins.Ins.{Ins}
+use Rattle.st_step.specs.declared.sort.Sorted.{Sorted}
+use Rattle.st_plain.specs.Code.{instructions_of}
 use Rattle.st_rv.specs.Rows.{IsRow}
 use Rattle.st_model.specs.Layout.{AreWords}
 
@@ -43,3 +46,12 @@ all_decoded found whole words k past so =
 -- of nothing, all is left
 pub none_decoded : (whole : List Ins) (words : List ℕ) → AreWords whole words → IsDecoded [] (drop 0 words) whole
 none_decoded whole words are = (whole, refl, are)
+
+-- with one more in the table
+pub with_sorted : (table : List Sorted) (s : Sorted) (i : Ins) → s.ins ≡ i → instructions_of (table ++ s ∷ []) ≡ instructions_of table ++ i ∷ []
+with_sorted [] s i e = ap (λ (k : Ins). k ∷ []) e
+with_sorted (t ∷ table) s i e = ap (λ (is : List Ins). t.ins ∷ is) (with_sorted table s i e)
+
+-- the instruction at a place of a table
+pub sorted_at : (table : List Sorted) (at : ℕ) (s : Sorted) → slice_get table at ≡ Some s → slice_get (instructions_of table) at ≡ Some s.ins
+sorted_at table at s e = slice_get-map (λ (t : Sorted). t.ins) table at ∙ ap (λ (o : Option Sorted). option_map (λ (t : Sorted). t.ins) o) e

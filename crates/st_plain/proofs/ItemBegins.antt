@@ -1,9 +1,8 @@
--- Where a run is at the first instruction of an item: behind an item it is (begins_past), amid an item it isn't (amid_elsewhere), but for the
+-- Where a run is at the first instruction of an item: at an item it is (begins_ready), amid an item it isn't (amid_elsewhere), but for the
 -- item's own first instruction. item_defined: there is an item where nothing undefined is read. entry_low: an entry stands below the code.
 use Rattle.std.proofs.Common.{◌≡◌, ◌≢◌, ◌⊎◌, inl, inr, ℕ, zero, suc, ◌+◌, ◌*◌, pos, cond, ◌<◌, ◌≤◌, Bool, true, false, Option, Some, None, List, [], ◌∷◌, length, slice_get, refl, ap, sym, ◌∙◌, subst, arith}
-use Rattle.std.specs.Option.{is_some, option_eq, option_map, unwrap_or}
+use Rattle.std.specs.Option.{is_some}
 use Rattle.std.specs.Prelude.{◌==◌}
-use Rattle.std.proofs.Math.Bool.{beq, not}
 use Rattle.std.proofs.lemmas.Bool.{ne_eqb}
 use Rattle.st_base.specs.declared.image.Image.{Image}
 use Rattle.st_base.specs.declared.limits.Limits.{Limits}
@@ -29,7 +28,7 @@ use Rattle.st_step.specs.declared.state.State.{State as MachineState}
 use Rattle.st_plain.specs.declared.run.PlainRun.{PlainRun}
 use Rattle.st_plain.specs.Answer.{IsPlainImage}
 use Rattle.st_plain.specs.Code.{HasItem, item_address, word_index}
-use Rattle.st_plain.specs.Running.{IsAmid, IsBehind, IsDefinedFrom, IsInside, IsPast, IsUnderWay, OnWay}
+use Rattle.st_plain.specs.Running.{IsAmid, IsBehind, IsDefinedFrom, IsInside, IsReady, IsUnderWay, OnWay}
 use Rattle.st_plain.specs.Standing.{AtCall, AtEnd, EndsAt, Enters, Stands, situation}
 use Rattle.st_plain.proofs.Jumps.{entry_small}
 use Rattle.st_plain.proofs.Tables.{begins_at}
@@ -78,10 +77,9 @@ begins_standing p image d stack names t s pi stands defined =
     let same : item_address p s.top.function function s.top.next + 4 * 0 ≡ t.state.pc = omega (arith, stands.at) in
     subst (λ a. slice_get image.begins (word_index a) ≡ Some true) same first
 
-pub begins_past : (p : Program) (image : Image) (d : Data) (limits : Limits) (drawn : ℕ) (r : PlainRun) (s : State) → IsPast p image d limits drawn r s → slice_get image.begins (word_index r.machine.state.pc) ≡ Some true
-begins_past p image d limits drawn r s past =
-    let ready = past.ready in
-    begins_standing p image d limits.stack ready.at.names (situation r.machine.state r.board.words.stack) past.s' ready.tables.is_plain ready.at.stands ready.defined
+pub begins_ready : (p : Program) (image : Image) (d : Data) (limits : Limits) (r : PlainRun) (s : State) → IsReady p image d limits r s → slice_get image.begins (word_index r.machine.state.pc) ≡ Some true
+begins_ready p image d limits r s ready =
+    begins_standing p image d limits.stack ready.at.names (situation r.machine.state r.board.words.stack) s ready.tables.is_plain ready.at.stands ready.defined
 
 -- ---- amid an item
 
@@ -146,16 +144,7 @@ amid_elsewhere p image d limits drawn r s left under few code whole =
 
 -- ---- a look at the table
 
--- the machine is whole where the answer is that it isn't half done
-pub whole_where : {T : Type 0} (half : Option T) (is_half value : Bool) → is_half ≡ is_some half → value ≡ not is_half → value ≡ true → half ≡ None
-whole_where None is_half value is answer whole = refl
-whole_where (Some word) is_half value is answer whole = let other : value ≡ false = answer ∙ ap not is in cc
-
-true_same : (b : Bool) → beq b true ≡ b
-true_same true = refl
-true_same false = refl
-
--- what is found is what stands there, whether it is compared with true
-pub seen : {T : Type 0} (now : T → Bool) (found : Option T) (other : T) (b : Bool) → now other ≡ true → ((d : Bool) → unwrap_or (option_map now found) d ≡ b) → option_eq (λ x y. beq (now x) (now y)) found (Some other) ≡ b
-seen now None other b is all = let t = all true in let f = all false in cc
-seen now (Some x) other b is all = ap (λ y. beq (now x) y) is ∙ true_same (now x) ∙ all true
+-- a machine that isn't half done is whole
+pub whole_where : {T : Type 0} (half : Option T) (is_half : Bool) → is_half ≡ is_some half → is_half ≡ false → half ≡ None
+whole_where None is_half is whole = refl
+whole_where (Some word) is_half is whole = cc

@@ -31,13 +31,13 @@ use Rattle.st_step.specs.Moves.{Stops, move_of, register}
 use Rattle.st_step.specs.Runs.{Situation, moved}
 use Rattle.st_plain.specs.declared.run.PlainRun.{PlainRun}
 use Rattle.st_plain.specs.declared.stop.Ending.TheVariants as endings
-use Rattle.st_plain.specs.Code.{code_at, word_index, HasItem}
+use Rattle.st_plain.specs.Code.{code_at, word_index, HasItem, instructions_of}
 use Rattle.std.proofs.lemmas.Bool.{le-ltb, lt-ltb}
 use Rattle.st_model.specs.declared.code.Layout.TheVariants.{Unchanged}
 use Rattle.st_model.specs.Layout.{code_of, code_start, function_words, functions_size, program_words, words_of_all, HasSize}
 use Rattle.st_plain.specs.Running.{EndsBy, GoesOn, HasTables, IsAmid, IsAtEntry, IsDefinedFrom, IsKept, IsPast, IsUnderWay, Makes, OnWay, Starts, Calls, Passes, limit_met}
 use Rattle.st_plain.specs.Standing.{on_stack, situation, Stands, AtCall, AtEnd, Enters, EndsAt}
-use Rattle.std.proofs.Math.Logic.{∥∥₁_elim, ∥∥₁_map}
+use Rattle.std.proofs.Math.Logic.{∥∥₁_elim}
 use Rattle.std.proofs.Math.Bridge.{le_prop}
 use Rattle.std.proofs.Math.Dec.{T}
 use Rattle.std.proofs.lemmas.Option.{slice_get_within}
@@ -239,10 +239,10 @@ module _ (p : Program) (image : Image) (d : Data) (limits : Limits) (drawn : ℕ
   amid_on high (inr (inr passing)) = passes_further passing passing.goes.comes.n refl passing.goes.comes.way
 
 -- one instruction of a run that is under way
-pub instruction_turns : (p : Program) (image : Image) (d : Data) (limits : Limits) (drawn : ℕ) (r : PlainRun) (machine : Machine) (board : PlainBoard) (s : State) (left : ℕ) (ins : Ins) (end : StepEnd) → IsUnderWay p image d limits drawn r s left → 0x10000 ≤ r.machine.state.pc → slice_get r.code.instructions.items (word_index r.machine.state.pc) ≡ Some ins
+pub instruction_turns : (p : Program) (image : Image) (d : Data) (limits : Limits) (drawn : ℕ) (r : PlainRun) (machine : Machine) (board : PlainBoard) (s : State) (left : ℕ) (ins : Ins) (end : StepEnd) → IsUnderWay p image d limits drawn r s left → 0x10000 ≤ r.machine.state.pc → slice_get (instructions_of r.code.instructions.items) (word_index r.machine.state.pc) ≡ Some ins
     → MovesOf r.board r.machine.state (move_of d r.machine.state ins) end machine.state board → TurnsAs p image d limits drawn r machine board s left end
 instruction_turns p image d limits drawn r machine board s left ins end under high there moves =
-    amid_on p image d limits drawn r machine board s left ins end under.tables under.defined (code_there p r.machine.state.pc ins r.code.instructions.items under.tables.instructions high there) moves high under.amid
+    amid_on p image d limits drawn r machine board s left ins end under.tables under.defined (code_there p r.machine.state.pc ins (instructions_of r.code.instructions.items) under.tables.instructions high there) moves high under.amid
 
 -- ---- at an entry
 
@@ -303,19 +303,12 @@ pub entry_turns : (p : Program) (image : Image) (d : Data) (limits : Limits) (dr
 entry_turns p image d limits drawn r new s left under many board code most goes =
     let tables : HasTables p image limits new = record {
       is_plain = under.tables.is_plain;
-      instructions = ap (λ x. x.instructions.items) code ∙ under.tables.instructions;
+      instructions = ap (λ x. instructions_of x.instructions.items) code ∙ under.tables.instructions;
       handles = ap (λ x. x.handles.items) code ∙ under.tables.handles;
       most = most ∙ under.tables.most;
       long = ap (λ x. length x.words.stack) board ∙ under.tables.long;
     } in
     served_on p image d limits drawn new s left many tables under.defined goes goes.comes.n refl goes.comes.way
-
--- what is served there
-pub serves_there : (image : Image) (d : Data) (r : PlainRun) → r.machine.state.pc < 0x10000 → ∥ ((p : Program) × (limits : Limits) × (drawn : ℕ) × (s : State) × (left : ℕ) × IsUnderWay p image d limits drawn r s left) ∥₁
-    → ∥ ((p : Program) × (d : Data) × (limits : Limits) × (names : List Held) × (s : State) × HasTables p image limits r × IsAtEntry p limits r names s × (step p d s ≡ Undefined → ⊥)) ∥₁
-serves_there image d r low amid = ∥∥₁_map amid (λ x.
-    let at = is_served_there x.0 image d x.1 x.2 r x.3 x.4 low x.5 in
-    (x.0, d, x.1, at.names, x.3, x.5.tables, at.entry, first_defined x.0 d x.3 x.5.defined))
 
 -- ---- the instruction is there
 
@@ -343,13 +336,13 @@ read_code : (p : Program) (pc : ℕ) (ins : Ins) → 0x10000 ≤ pc → code_at 
 read_code p pc ins high there = ap (λ (b : Bool). if b then None else slice_get (code_of Unchanged p) (word_index pc)) (sym (le-ltb pc code_start high)) ∙ there
 
 -- an instruction stands at the pc
-pub is_coded : (p : Program) (image : Image) (d : Data) (limits : Limits) (drawn : ℕ) (r : PlainRun) (s : State) (left : ℕ) → 0x10000 ≤ r.machine.state.pc → IsUnderWay p image d limits drawn r s left → (ins : Ins) × (slice_get r.code.instructions.items (word_index r.machine.state.pc) ≡ Some ins)
+pub is_coded : (p : Program) (image : Image) (d : Data) (limits : Limits) (drawn : ℕ) (r : PlainRun) (s : State) (left : ℕ) → 0x10000 ≤ r.machine.state.pc → IsUnderWay p image d limits drawn r s left → (ins : Ins) × (slice_get (instructions_of r.code.instructions.items) (word_index r.machine.state.pc) ≡ Some ins)
 is_coded p image d limits drawn r s left high under =
     let found = coded_amid p image d limits drawn r s left under.tables under.defined high under.amid in
     (found.0, ap (λ (xs : List Ins). slice_get xs (word_index r.machine.state.pc)) under.tables.instructions ∙ read_code p r.machine.state.pc found.0 high found.1)
 
-pub code_inside : (image : Image) (d : Data) (r : PlainRun) → 0x10000 ≤ r.machine.state.pc → ∥ ((p : Program) × (limits : Limits) × (drawn : ℕ) × (s : State) × (left : ℕ) × IsUnderWay p image d limits drawn r s left) ∥₁ → word_index r.machine.state.pc < length r.code.instructions.items
-code_inside image d r high amid = ∥∥₁_elim amid le_prop (λ x. let there = is_coded x.0 image d x.1 x.2 r x.3 x.4 high x.5 in slice_get_within r.code.instructions.items (word_index r.machine.state.pc) there.0 there.1)
+pub code_inside : (image : Image) (d : Data) (r : PlainRun) → 0x10000 ≤ r.machine.state.pc → ∥ ((p : Program) × (limits : Limits) × (drawn : ℕ) × (s : State) × (left : ℕ) × IsUnderWay p image d limits drawn r s left) ∥₁ → word_index r.machine.state.pc < length (instructions_of r.code.instructions.items)
+code_inside image d r high amid = ∥∥₁_elim amid le_prop (λ x. let there = is_coded x.0 image d x.1 x.2 r x.3 x.4 high x.5 in slice_get_within (instructions_of r.code.instructions.items) (word_index r.machine.state.pc) there.0 there.1)
 
 -- there are as many lines
 all-length : (fs : List ProgramFunction) → length (words_of_all Unchanged fs) ≡ functions_size Unchanged fs
@@ -372,6 +365,18 @@ line_inside image d r high amid =
     let codes = ap length tables.instructions in
     omega (arith, inside, lines, codes))
 
+begins-length : (p : Program) (image : Image) → IsPlainImage p image → length image.begins ≡ length (code_of Unchanged p)
+unfolding program_words
+begins-length p image pi = ap length pi.is_image.begins ∙ length-map (program_words Unchanged p) (λ w. w.begins) ∙ all-length p.functions ∙ sym (code-length p)
+
+pub beginning_inside : (p : Program) (image : Image) (d : Data) (limits : Limits) (drawn : ℕ) (r : PlainRun) (s : State) (left : ℕ) → 0x10000 ≤ r.machine.state.pc → IsUnderWay p image d limits drawn r s left → word_index r.machine.state.pc < length image.begins
+beginning_inside p image d limits drawn r s left high under =
+    let there = is_coded p image d limits drawn r s left high under in
+    let inside = slice_get_within (instructions_of r.code.instructions.items) (word_index r.machine.state.pc) there.0 there.1 in
+    let begins = begins-length p image under.tables.is_plain in
+    let codes = ap length under.tables.instructions in
+    omega (arith, inside, begins, codes)
+
 -- ---- bounds
 
 t_prop : (b : Bool) → IsProp (T b)
@@ -389,8 +394,8 @@ coded_bounded p image pc ins pi high there =
     bounded_some fetched.word (Some ins) fetched.row
 
 -- the instruction at the pc
-pub code_bounded : (image : Image) (d : Data) (r : PlainRun) (ins : Ins) → 0x10000 ≤ r.machine.state.pc → ∥ ((p : Program) × (limits : Limits) × (drawn : ℕ) × (s : State) × (left : ℕ) × IsUnderWay p image d limits drawn r s left) ∥₁ → slice_get r.code.instructions.items (word_index r.machine.state.pc) ≡ Some ins → IsBounded ins
-code_bounded image d r ins high amid there = ∥∥₁_elim amid (bounded_prop ins) (λ x. coded_bounded x.0 image r.machine.state.pc ins x.5.tables.is_plain high (code_there x.0 r.machine.state.pc ins r.code.instructions.items x.5.tables.instructions high there))
+pub code_bounded : (image : Image) (d : Data) (r : PlainRun) (ins : Ins) → 0x10000 ≤ r.machine.state.pc → ∥ ((p : Program) × (limits : Limits) × (drawn : ℕ) × (s : State) × (left : ℕ) × IsUnderWay p image d limits drawn r s left) ∥₁ → slice_get (instructions_of r.code.instructions.items) (word_index r.machine.state.pc) ≡ Some ins → IsBounded ins
+code_bounded image d r ins high amid there = ∥∥₁_elim amid (bounded_prop ins) (λ x. coded_bounded x.0 image r.machine.state.pc ins x.5.tables.is_plain high (code_there x.0 r.machine.state.pc ins (instructions_of r.code.instructions.items) x.5.tables.instructions high there))
 
 -- what it speaks of
 made_within : (p : Program) (d : Data) (stack n : ℕ) (t u : Situation) (ins : Ins) → n ≡ stack / 8 → Makes p d stack t u → code_at p t.state.pc ≡ Some ins → SpeaksWithin n (move_of d t.state ins)
@@ -420,7 +425,7 @@ amid_within p image d limits drawn r s left ins tables defined high (inl begins)
 amid_within p image d limits drawn r s left ins tables defined high (inr (inl calls)) there = call_within p d limits drawn r s left (length r.board.words.stack) ins tables.is_plain.accepted tables.long high calls calls.n refl calls.way there
 amid_within p image d limits drawn r s left ins tables defined high (inr (inr passing)) there = way_within p d limits.stack (length r.board.words.stack) passing.goes.comes.n (situation r.machine.state r.board.words.stack) passing.goes.comes.t ins tables.long passing.some passing.goes.comes.way there
 
-pub code_within : (image : Image) (d : Data) (r : PlainRun) (ins : Ins) → 0x10000 ≤ r.machine.state.pc → ∥ ((p : Program) × (limits : Limits) × (drawn : ℕ) × (s : State) × (left : ℕ) × IsUnderWay p image d limits drawn r s left) ∥₁ → slice_get r.code.instructions.items (word_index r.machine.state.pc) ≡ Some ins → SpeaksWithin (length r.board.words.stack) (move_of d r.machine.state ins)
+pub code_within : (image : Image) (d : Data) (r : PlainRun) (ins : Ins) → 0x10000 ≤ r.machine.state.pc → ∥ ((p : Program) × (limits : Limits) × (drawn : ℕ) × (s : State) × (left : ℕ) × IsUnderWay p image d limits drawn r s left) ∥₁ → slice_get (instructions_of r.code.instructions.items) (word_index r.machine.state.pc) ≡ Some ins → SpeaksWithin (length r.board.words.stack) (move_of d r.machine.state ins)
 code_within image d r ins high amid there =
     ∥∥₁_elim amid (speaks_prop (length r.board.words.stack) (move_of d r.machine.state ins)) (λ x.
-    amid_within x.0 image d x.1 x.2 r x.3 x.4 ins x.5.tables x.5.defined high x.5.amid (code_there x.0 r.machine.state.pc ins r.code.instructions.items x.5.tables.instructions high there))
+    amid_within x.0 image d x.1 x.2 r x.3 x.4 ins x.5.tables x.5.defined high x.5.amid (code_there x.0 r.machine.state.pc ins (instructions_of r.code.instructions.items) x.5.tables.instructions high there))

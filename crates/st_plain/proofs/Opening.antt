@@ -36,7 +36,7 @@ use Rattle.st_plain.specs.declared.cells.Cell.TheVariants.{Future as FutureCell}
 use Rattle.st_plain.specs.declared.cells.Note.{Note}
 use Rattle.st_plain.specs.declared.run.PlainRun.{PlainRun}
 use Rattle.st_plain.specs.Answer.{IsPlainImage}
-use Rattle.st_plain.specs.Code.{handles_of}
+use Rattle.st_plain.specs.Code.{handles_of, instructions_of}
 use Rattle.st_plain.specs.Frames.{HasFile, IsHeldAs, end_entry, value_in}
 use Rattle.st_plain.specs.Running.{HasBoard, IsDefinedFrom, IsKept, IsReady}
 use Rattle.st_plain.specs.Standing.{IsMachine, Stands, situation, stack_start}
@@ -175,19 +175,19 @@ kept_opened p limits cells notes out s rest are note none least handles = record
 
 -- ---- the run
 
-pub opened_ready : (p : Program) (image : Image) (d : Data) (limits : Limits) (r : PlainRun) (s : State) → IsPlainImage p image → start p d ≡ Some s → IsDefinedFrom p d s → limits.stack ≤ 1048576 → 1 ≤ limits.cells → length d.input < 2 ^ 64
-    → r.machine.state ≡ opened (stack_start + limits.stack) (length d.input) image.main_at → r.board.words ≡ first_words limits 1 → r.board.kept.views ≡ first_views limits 1
-    → r.code.instructions.items ≡ code_of Unchanged p → r.code.handles.items ≡ handles_of image.forks (replicate (length image.words) registers.Zero)
+pub opened_ready : (p : Program) (image : Image) (d : Data) (limits sizes : Limits) (r : PlainRun) (s : State) → sizes.stack ≡ limits.stack → IsPlainImage p image → start p d ≡ Some s → IsDefinedFrom p d s → limits.stack ≤ 1048576 → 1 ≤ limits.cells → length d.input < 2 ^ 64
+    → r.machine.state ≡ opened (stack_start + limits.stack) (length d.input) image.main_at → r.board.words ≡ first_words sizes 1 → r.board.kept.views ≡ first_views sizes 1
+    → instructions_of r.code.instructions.items ≡ code_of Unchanged p → r.code.handles.items ≡ handles_of image.forks (replicate (length image.words) registers.Zero)
     → r.threads.cells.most ≡ limits.cells → r.threads.cells.items.items ≡ FutureCell None ∷ [] → r.threads.notes.items.items ≡ record { cell = 0; forks = 0; counters = 0; handle = registers.Zero } ∷ [] → r.threads.out.items.items ≡ []
     → IsReady p image d limits r s
-opened_ready p image d limits r s pi starts defined few least less machine words views instructions handles most cells notes out = record {
-  tables = record { is_plain = pi; instructions = instructions; handles = handles; most = most; long = long_opened limits r.board.words words };
+opened_ready p image d limits sizes r s same pi starts defined few least less machine words views instructions handles most cells notes out = record {
+  tables = record { is_plain = pi; instructions = instructions; handles = handles; most = most; long = long_opened sizes r.board.words words ∙ ap (λ (n : ℕ). n / 8) same };
   at = record {
     names = Future [] ∷ [];
     kept = kept_opened p limits r.threads.cells.items.items r.threads.notes.items.items r.threads.out.items.items s (started_gives p (length d.input) (slice_get p.functions p.main) s starts) cells notes out least (handles_opened p (length d.input) (slice_get p.functions p.main) s starts);
     stands =
-        subst₂ (λ (m : MachineState) (stack : List ℕ). Stands p limits.stack (Future [] ∷ []) (situation m stack) s) (sym machine) (sym (stack_opened limits r.board.words words))
-        (started_stands p limits.stack (length d.input) image.main_at (1 * (limits.stack / 8)) (slice_get p.functions p.main) s few less pi.is_image.main refl starts);
+        subst₂ (λ (m : MachineState) (stack : List ℕ). Stands p limits.stack (Future [] ∷ []) (situation m stack) s) (sym machine) (sym (stack_opened sizes r.board.words words))
+        (started_stands p limits.stack (length d.input) image.main_at (1 * (sizes.stack / 8)) (slice_get p.functions p.main) s few less pi.is_image.main refl starts);
   };
   defined = defined;
 }

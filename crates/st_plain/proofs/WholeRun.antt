@@ -1,7 +1,8 @@
--- A run of all its items: it stands for a state from which the bounded run answers as from main (IsOnRun), from its beginning (first_on_run) from
--- item to item (item_passed). It answers as the bounded run where an item ends it (item_ends) or no item is left (steps_passed), and no
--- end of it is Going (never_going).
-use Rattle.std.proofs.Common.{◌≡◌, ◌≢◌, inl, inr, ℕ, suc, ◌-◌, ◌≤◌, List, length, reverse, Option, Some, None, slice_get, refl, ap, ap₂, sym, ◌∙◌, arith}
+-- A run of all its items: at an item it stands for a state from which the bounded run answers as from main (IsOnRun), as from its beginning
+-- (first_on_run), and amid one it has begun that item of this state (IsInItem, in_item), from turn to turn (Stage, next_stage). It answers
+-- as the bounded run where an item ends it (item_ends) or none is left where one begins (none_begins, steps_passed), and no end of it is
+-- Going (never_going).
+use Rattle.std.proofs.Common.{◌≡◌, ◌≢◌, ◌⊎◌, inl, inr, ℕ, zero, suc, ◌+◌, ◌*◌, ◌-◌, ◌<◌, ◌≤◌, true, List, length, reverse, Option, Some, None, slice_get, refl, ap, ap₂, sym, ◌∙◌, subst, arith}
 use Rattle.std.proofs.lemmas.Bool.{le-ltb}
 use Rattle.st_base.specs.declared.image.Image.{Image}
 use Rattle.st_base.specs.declared.limits.LimitKind.TheVariants.{Step}
@@ -28,7 +29,13 @@ use Rattle.st_plain.specs.declared.whole.PlainEnd.TheVariants.{Ended, Limit}
 use Rattle.st_plain.specs.declared.whole.PlainEnd.{PlainEnd}
 use Rattle.st_plain.specs.Answer.{IsPlainImage, answer_of, bounds_of}
 use Rattle.st_plain.specs.Endings.{end_by}
-use Rattle.st_plain.specs.Running.{EndsBy, IsDefinedFrom, IsPast, IsReady}
+use Rattle.st_plain.specs.Running.{EndsBy, IsDefinedFrom, IsReady, IsUnderWay, TurnLeads}
+use Rattle.std.proofs.lemmas.Option.{slice_get_within}
+use Rattle.st_plain.specs.Code.{word_index}
+use Rattle.st_plain.proofs.Addresses.{place_bounds}
+use Rattle.st_plain.proofs.ItemBegins.{begins_ready}
+use Rattle.st_plain.proofs.ItemTurns.{none_left}
+use Rattle.st_plain.proofs.OneTurn.{beginning_inside}
 
 -- ---- the first state
 
@@ -77,24 +84,96 @@ first_on_run p image d limits r pi least one ready =
       rest = ap (λ n. bounded p d limits.stack limits.steps (limits.cells - n) first.0) one ∙ first_bounded p d (bounds_of limits) first.0 first.1 least;
     }
 
--- an item more
-on_next : (p : Program) (image : Image) (d : Data) (limits : Limits) (r : PlainRun) (left n : ℕ) → left ≡ suc n → (on : IsOnRun p image d limits r left) → bounded p d limits.stack (suc n) (limits.cells - length r.threads.cells.items.items) on.s ≡ bounded_run p d (bounds_of limits)
-on_next p image d limits r left n one on =
-    let cells = limits.cells - length r.threads.cells.items.items in
-    ap (λ m. bounded p d limits.stack m cells on.s) (sym one) ∙ on.rest
+-- the run is amid an item, with at most so many turns left of it; the bounded run from its state, with this item and those that are left,
+-- answers as from main. No item has more than 64 turns
+pub record IsInItem (p : Program) (image : Image) (d : Data) (limits : Limits) (r : PlainRun) (left made : ℕ) : Type 0 where
+  pub drawn : ℕ
+  pub s : State
+  pub turns : ℕ
+  pub under : IsUnderWay p image d limits drawn r s turns
+  pub rest : bounded p d limits.stack (suc left) (limits.cells - drawn) s ≡ bounded_run p d (bounds_of limits)
+  pub soon : made + 64 * left + turns ≤ 64 * limits.steps
 
-pub item_passed : (p : Program) (image : Image) (d : Data) (limits : Limits) (r next : PlainRun) (left n : ℕ) → left ≡ suc n → (on : IsOnRun p image d limits r left) → IsPast p image d limits (length r.threads.cells.items.items) next on.s → IsOnRun p image d limits next n
-item_passed p image d limits r next left n one on past =
-    let drawn = length r.threads.cells.items.items in
-    let cells : limits.cells - length next.threads.cells.items.items ≡ limits.cells - drawn - drawn_by (item_at p on.s.top) = omega (arith, past.drew) in
+-- before a turn, of which so many were made, the run is at an item, or amid one that it has begun before
+abbrev pub Stage : Program → Image → Data → Limits → PlainRun → ℕ → ℕ → Type 0
+Stage p image d limits r left made =
+    (IsOnRun p image d limits r left × (made + 64 * left ≤ 64 * limits.steps)) ⊎ ((x : IsInItem p image d limits r left made) × (x.turns < 42))
+
+-- at an item it begins that one, and amid one it goes on
+pub in_item : (p : Program) (image : Image) (d : Data) (limits : Limits) (r : PlainRun) (left rest made begun : ℕ) → Stage p image d limits r left made → ((s : State) → IsReady p image d limits r s → begun ≡ 1)
+    → ((drawn : ℕ) (s : State) (turns : ℕ) → IsUnderWay p image d limits drawn r s turns → turns < 42 → begun ≡ 0) → rest + begun ≡ left → IsInItem p image d limits r rest made
+in_item p image d limits r left rest made begun (inl at) ready amid taken =
+    let one = ready at.0.s at.0.ready in
+    let more : left ≡ suc rest = omega (arith, one, taken) in
+    let soon = at.1 in
+    let cells = limits.cells - length r.threads.cells.items.items in
+    let long : 42 ≤ 64 = omega arith in
     record {
-      s = past.s';
-      ready = past.ready;
-      rest =
-          ap (λ many. bounded p d limits.stack n many past.s') cells
-          ∙ sym (bounded_by p d limits.stack n (limits.cells - drawn) on.s None (Goes past.s') past.passes past.steps)
-          ∙ on_next p image d limits r left n one on;
+      drawn = length r.threads.cells.items.items;
+      s = at.0.s;
+      turns = 64;
+      under = record { tables = at.0.ready.tables; defined = at.0.ready.defined; amid = inl (long, refl, at.0.ready.at) };
+      rest = ap (λ n. bounded p d limits.stack n cells at.0.s) (sym more) ∙ at.0.rest;
+      soon = omega (arith, more, soon);
     }
+in_item p image d limits r left rest made begun (inr x) ready amid taken =
+    let none = amid x.0.drawn x.0.s x.0.turns x.0.under x.1 in
+    let same : left ≡ rest = omega (arith, none, taken) in
+    subst (λ n. IsInItem p image d limits r n made) same x.0
+
+-- at an item, with none left
+pub none_begins : (p : Program) (image : Image) (d : Data) (limits : Limits) (r : PlainRun) (left made begun : ℕ) → Stage p image d limits r left made → ((s : State) → IsReady p image d limits r s → begun ≡ 1)
+    → ((drawn : ℕ) (s : State) (turns : ℕ) → IsUnderWay p image d limits drawn r s turns → turns < 42 → begun ≡ 0) → left < begun → IsOnRun p image d limits r 0
+none_begins p image d limits r left made begun (inl at) ready amid less =
+    let one = ready at.0.s at.0.ready in
+    let none : left ≡ 0 = omega (arith, one, less) in
+    subst (IsOnRun p image d limits r) none at.0
+none_begins p image d limits r left made begun (inr x) ready amid less = let none = amid x.0.drawn x.0.s x.0.turns x.0.under x.1 in absurd (omega (arith, none, less))
+
+-- an entry is amid an item
+pub at_entry : (p : Program) (image : Image) (d : Data) (limits : Limits) (r : PlainRun) (left made : ℕ) → r.machine.state.pc < 0x10000 → Stage p image d limits r left made → IsInItem p image d limits r left made
+at_entry p image d limits r left made low (inl at) =
+    let stands = at.0.ready.at.stands in
+    let high = (place_bounds p at.0.s.top.function stands.stands.function at.0.s.top.next at.0.ready.tables.is_plain.size stands.stands.here).0 in
+    let there = stands.at in
+    absurd (omega (arith, low, high, there))
+at_entry p image d limits r left made low (inr x) = x.0
+
+-- the table of beginnings has the word at the pc
+pub begins_inside : (p : Program) (image : Image) (d : Data) (limits : Limits) (r : PlainRun) (left made : ℕ) → 0x10000 ≤ r.machine.state.pc → Stage p image d limits r left made → word_index r.machine.state.pc < length image.begins
+begins_inside p image d limits r left made high (inl at) = slice_get_within image.begins (word_index r.machine.state.pc) true (begins_ready p image d limits r at.0.s at.0.ready)
+begins_inside p image d limits r left made high (inr x) = beginning_inside p image d limits x.0.drawn r x.0.s x.0.turns high x.0.under
+
+some_left : (turns : ℕ) → (turns ≡ 0 → ⊥) → 1 ≤ turns
+some_left zero some = absurd (some refl)
+some_left (suc turns) some = omega arith
+
+-- a turn leads on in the item, or to the next one
+pub next_stage : (p : Program) (image : Image) (d : Data) (limits : Limits) (r next : PlainRun) (left made : ℕ) (x : IsInItem p image d limits r left made) → TurnLeads p image d limits x.drawn next x.s x.turns → Stage p image d limits next left (made + 1)
+next_stage p image d limits r next left made x (inl under) =
+    let soon = x.soon in
+    let less = under.1 in
+    inr (record { drawn = x.drawn; s = x.s; turns = under.0; under = under.3; rest = x.rest; soon = omega (arith, soon, less) }, under.2)
+next_stage p image d limits r next left made x (inr past) =
+    let soon = x.soon in
+    let some = some_left x.turns (λ none. none_left p image d limits x.drawn r x.s x.turns none x.under) in
+    let cells : limits.cells - length next.threads.cells.items.items ≡ limits.cells - x.drawn - drawn_by (item_at p x.s.top) = omega (arith, past.drew) in
+    inl (
+      record {
+        s = past.s';
+        ready = past.ready;
+        rest =
+            ap (λ many. bounded p d limits.stack left many past.s') cells
+            ∙ sym (bounded_by p d limits.stack left (limits.cells - x.drawn) x.s None (Goes past.s') past.passes past.steps)
+            ∙ x.rest;
+      },
+      omega (arith, soon, some),
+    )
+
+-- so many turns aren't made
+pub past_all : (p : Program) (image : Image) (d : Data) (limits : Limits) (r : PlainRun) (left made : ℕ) → 64 * limits.steps < made → Stage p image d limits r left made → ⊥
+past_all p image d limits r left made far (inl at) = let soon = at.1 in omega (arith, far, soon)
+past_all p image d limits r left made far (inr x) = let soon = x.0.soon in omega (arith, far, soon)
 
 -- ---- the end
 
@@ -112,15 +191,13 @@ ends_so p d limits drawn n notes out s ending end gives (inr over) =
     ap (answer_of limits) (bounded_by p d limits.stack n (limits.cells - drawn) s None (Over over.1.0) over.0 over.1.1)
     ∙ ap Some (sym (gives.0 over.1.0 over.1.2))
 
-pub item_ends : (p : Program) (image : Image) (d : Data) (limits : Limits) (r : PlainRun) (left n : ℕ) (notes : List Note) (out : List ℕ) (ending : Ending) (end : PlainEnd) → left ≡ suc n → (on : IsOnRun p image d limits r left) → GivesEnd notes out ending end
-    → EndsBy p d limits (length r.threads.cells.items.items) notes out on.s ending → answer_of limits (bounded_run p d (bounds_of limits)) ≡ Some end
-item_ends p image d limits r left n notes out ending end one on gives over =
-    ap (answer_of limits) (sym (on_next p image d limits r left n one on)) ∙ ends_so p d limits (length r.threads.cells.items.items) n notes out on.s ending end gives over
+pub item_ends : (p : Program) (image : Image) (d : Data) (limits : Limits) (r : PlainRun) (left made : ℕ) (notes : List Note) (out : List ℕ) (ending : Ending) (end : PlainEnd) (x : IsInItem p image d limits r left made) → GivesEnd notes out ending end → EndsBy p d limits x.drawn notes out x.s ending
+    → answer_of limits (bounded_run p d (bounds_of limits)) ≡ Some end
+item_ends p image d limits r left made notes out ending end x gives over = ap (answer_of limits) (sym x.rest) ∙ ends_so p d limits x.drawn left notes out x.s ending end gives over
 
-pub steps_passed : (p : Program) (image : Image) (d : Data) (limits : Limits) (r : PlainRun) (left : ℕ) → left ≡ 0 → IsOnRun p image d limits r left → answer_of limits (bounded_run p d (bounds_of limits)) ≡ Some (Limit (Step 0))
-steps_passed p image d limits r left none on =
-    let cells = limits.cells - length r.threads.cells.items.items in
-    ap (answer_of limits) (sym on.rest ∙ ap (λ n. bounded p d limits.stack n cells on.s) none ∙ no_items p d limits.stack cells on.s)
+pub steps_passed : (p : Program) (image : Image) (d : Data) (limits : Limits) (r : PlainRun) → IsOnRun p image d limits r 0 → answer_of limits (bounded_run p d (bounds_of limits)) ≡ Some (Limit (Step 0))
+steps_passed p image d limits r on =
+    ap (answer_of limits) (sym on.rest ∙ no_items p d limits.stack (limits.cells - length r.threads.cells.items.items) on.s)
 
 not_going : (notes : List Note) (out : List ℕ) (ending : Ending) → end_by notes out ending ≢ Some Going
 not_going notes out endings.Done is = cc

@@ -1,9 +1,10 @@
 -- The unchanged code of a program at its addresses, and what a run keeps of an image. Read code_at (the instruction at an address),
 -- item_address (where an item begins) and handles_of (the handle registers of forks, by words).
-use Rattle.std.specs.Prelude.{◌≡◌, ℕ, ◌+◌, ◌-◌, ◌*◌, ◌/◌, ◌<◌, ◌≤◌, nat_lt, List, [], ◌∷◌, Option, Some, None, slice_get, slice_set, if◌then◌else◌}
+use Rattle.std.specs.Prelude.{◌≡◌, ℕ, ◌+◌, ◌-◌, ◌*◌, ◌/◌, ◌<◌, ◌≤◌, nat_lt, List, [], ◌∷◌, Option, Some, None, slice_get, slice_set, map, if◌then◌else◌}
 use Rattle.st_base.specs.declared.reg.Reg.{Reg}
 use Rattle.st_base.specs.declared.image.ForkRow.{ForkRow}
 use Rattle.st_rv.specs.declared.ins.Ins.{Ins}
+use Rattle.st_step.specs.declared.sort.Sorted.{Sorted}
 use Rattle.st_model.specs.declared.program.Item.{Item}
 use Rattle.st_model.specs.declared.program.Program.{Program}
 use Rattle.st_model.specs.declared.program.ProgramFunction.{ProgramFunction}
@@ -13,6 +14,10 @@ use Rattle.st_model.specs.Layout.{code_start, code_of, function_address, item_pl
 -- the word of an address, counted from the first
 abbrev pub word_index : ℕ → ℕ
 word_index address = (address - code_start) / 4
+
+-- the instructions of a table
+abbrev pub instructions_of : List Sorted → List Ins
+instructions_of table = map (λ s. s.ins) table
 
 -- the instruction of the word at an address
 abbrev pub code_at : Program → ℕ → Option Ins

@@ -32,7 +32,7 @@ use Rattle.st_plain.specs.declared.stop.Ending.{Ending}
 use Rattle.st_plain.specs.declared.stop.Ending.TheVariants as endings
 use Rattle.st_plain.specs.declared.whole.PlainEnd.TheVariants as PlainEnds
 use Rattle.st_plain.specs.Answer.{IsPlainImage, end_of}
-use Rattle.st_plain.specs.Code.{code_at, item_address, handles_of, HasItem}
+use Rattle.st_plain.specs.Code.{code_at, item_address, handles_of, instructions_of, HasItem}
 use Rattle.st_plain.specs.Standing.{on_stack, situation, Stands, AtCall, AtEnd}
 use Rattle.st_plain.specs.Endings.{end_by}
 use Rattle.st_plain.specs.Threads.{NamesStand, NotesStand, HandlesStand}
@@ -121,7 +121,7 @@ pub record GoesOn (p : Program) (d : Data) (limits : Limits) (drawn : ℕ) (r : 
 -- the tables are of the image, and as many cells may be drawn as the limits say
 pub record HasTables (p : Program) (image : Image) (limits : Limits) (r : PlainRun) : Type 0 where
   pub is_plain : IsPlainImage p image
-  pub instructions : r.code.instructions.items ≡ code_of Unchanged p
+  pub instructions : instructions_of r.code.instructions.items ≡ code_of Unchanged p
   pub handles : r.code.handles.items ≡ handles_of image.forks (replicate (length image.words) registers.Zero)
   pub most : r.threads.cells.most ≡ limits.cells
   pub long : length r.board.words.stack ≡ limits.stack / 8
@@ -195,3 +195,7 @@ pub record IsPast (p : Program) (image : Image) (d : Data) (limits : Limits) (dr
   pub steps : step p d s ≡ Goes s'
   pub ready : IsReady p image d limits r s'
   pub drew : length r.threads.cells.items.items ≡ drawn + drawn_by (item_at p s.top)
+
+-- where a turn leads amid an item: on in it, with fewer turns left, or to the next one
+abbrev pub TurnLeads : Program → Image → Data → Limits → ℕ → PlainRun → State → ℕ → Type 0
+TurnLeads p image d limits drawn r s left = ((less : ℕ) × (less < left) × (less < 42) × IsUnderWay p image d limits drawn r s less) ⊎ IsPast p image d limits drawn r s

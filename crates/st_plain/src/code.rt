@@ -1,5 +1,5 @@
-//! What a run keeps of an image: its instructions, decoded once, and the registers of the handles of its forks.
-ghost use Rattle.std.specs.Prelude.{◌≡◌, ◌<◌, ◌≤◌, ◌+◌, ◌*◌, List, IfOk, length, replicate};
+//! What a run keeps of an image: its instructions, decoded and sorted once, and the registers of the handles of its forks.
+ghost use Rattle.std.specs.Prelude.{◌≡◌, ◌<◌, ◌≤◌, ◌*◌, List, IfOk, length, replicate};
 ghost use Rattle.st_base.specs.declared.image.Image.{Image};
 ghost use Rattle.st_base.specs.declared.reg.Reg.TheVariants.{Zero};
 ghost use Rattle.st_rv.specs.declared.ins.Ins.{Ins};
@@ -7,12 +7,12 @@ ghost use Rattle.st_model.specs.declared.program.Program.{Program};
 ghost use Rattle.st_model.specs.declared.code.Layout.TheVariants.{Unchanged};
 ghost use Rattle.st_model.specs.Layout.{AreWords, code_of};
 ghost use Rattle.st_plain.specs.Answer.{HasProgram, IsPlainImage};
-ghost use Rattle.st_plain.specs.Code.{AreInCode, handles_of, word_index};
+ghost use Rattle.st_plain.specs.Code.{AreInCode, handles_of, instructions_of, word_index};
 
 use st_base::image::{ForkRow, Image};
 use st_base::reg::Reg;
 use st_rv::code::decode;
-use st_rv::ins::Ins;
+use st_step::Sorted;
 use std::alloc::{AllocError, Global};
 
 /// Where the code begins.
@@ -26,17 +26,17 @@ pub(crate) fn word_index(address: u32) -> usize
     ((address - CODE_START) / 4) as usize
 }
 
-/// The instructions of words.
-fn decoded(alloc: Global, words: &[u32]) -> Result<Vec<Ins>, AllocError>
+/// The instructions of words, sorted.
+fn decoded(alloc: Global, words: &[u32]) -> Result<Vec<Sorted>, AllocError>
     requires { ∥ ((instructions : List Ins) × AreWords instructions words.now) ∥₁ }
-    ensures { IfOk result (λ found. (instructions : List Ins) → AreWords instructions words.now → found.items ≡ instructions) }
+    ensures { IfOk result (λ found. (instructions : List Ins) → AreWords instructions words.now → instructions_of found.items ≡ instructions) }
 {
     let mut found = Vec::with_capacity(alloc, words.len())?;
     for word in words {
         let Some(instruction) = decode(*word) else {
             unreachable!()
         };
-        found.push(instruction)?;
+        found.push(Sorted::of(instruction))?;
     }
     Ok(found)
 }
@@ -56,7 +56,7 @@ fn handles(alloc: Global, forks: &[ForkRow], count: usize) -> Result<Vec<Reg>, A
 /// The instructions of an image, and for the first jump of each fork the register of its handle, both by words.
 #[derive(Drop)]
 pub struct Code {
-    pub(crate) instructions: Vec<Ins>,
+    pub(crate) instructions: Vec<Sorted>,
     pub(crate) handles: Vec<Reg>,
 }
 
@@ -64,7 +64,7 @@ impl Code {
     /// The tables of an image.
     pub(crate) fn of(alloc: Global, image: &Image) -> Result<Code, AllocError>
         requires { ∥ HasProgram image.now ∥₁ }
-        ensures instructions { IfOk result (λ code. (p : Program) → IsPlainImage p image.now → code.instructions.items ≡ code_of Unchanged p) }
+        ensures instructions { IfOk result (λ code. (p : Program) → IsPlainImage p image.now → instructions_of code.instructions.items ≡ code_of Unchanged p) }
         ensures handles { IfOk result (λ code. code.handles.items ≡ handles_of image.now.forks (replicate (length image.now.words) Zero)) }
     {
         let instructions = decoded(alloc, image.words.as_slice())?;

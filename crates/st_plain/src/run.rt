@@ -1,5 +1,5 @@
 //! A run of unchanged code, item by item.
-ghost use Rattle.std.specs.Prelude.{◌≡◌, ◌⊎◌, ◌<◌, ◌≤◌, ◌-◌, ℕ, length, IfOk, IfSome, None, Some, true, false, reverse};
+ghost use Rattle.std.specs.Prelude.{◌≡◌, ◌<◌, ◌≤◌, ℕ, length, nat_lt, IfOk, IfSome, None, Some, reverse};
 ghost use Rattle.st_base.specs.declared.limits.LimitKind.{LimitKind};
 ghost use Rattle.st_base.specs.declared.limits.Limits.{Limits};
 ghost use Rattle.st_model.specs.declared.ordinary.OrdEnd.{OrdEnd};
@@ -11,7 +11,8 @@ ghost use Rattle.st_words.specs.Laws.{named, progress_of};
 ghost use Rattle.st_words.specs.Views.{no_load};
 ghost use Rattle.st_plain.specs.Answer.{HasProgram, IsPlainImage};
 ghost use Rattle.st_plain.specs.Endings.{end_by};
-ghost use Rattle.st_plain.specs.Running.{EndsBy, HasBoard, IsDefinedFrom, IsPast, IsReady, IsUnderWay};
+ghost use Rattle.st_plain.specs.Running.{EndsBy, HasBoard, IsDefinedFrom, IsReady, IsUnderWay, TurnLeads};
+ghost use Rattle.st_plain.specs.Code.{word_index};
 
 use crate::code::{Code, word_index};
 use crate::stop::Ending;
@@ -32,8 +33,8 @@ const CODE_START: u32 = 0x1_0000;
 const STACK_START: u64 = 0x8000_0000;
 /// The entry to which the root's first call comes back.
 const END: u64 = 0x30;
-/// More turns than any item takes: the instructions of an epilogue, the jump and the entry behind it.
-const MOST_TURNS: u32 = 64;
+/// The fewest cells that a board may have.
+const LEAST_CELLS: u32 = 16;
 
 /// The view after a step, where the worker's threads do nothing by it.
 struct Plainly;
@@ -42,6 +43,17 @@ impl Next for Plainly {
     ghost after = { λ v s a. named (progress_of v) v s a };
 
     ghost load = { λ _ _ _. no_load };
+}
+
+/// The limits of a board of which the words of the stack alone are used: it has as few cells as a board may have.
+fn stack_alone(limits: &Limits) -> Limits
+    ensures { result.stack ≡ limits.now.stack }
+{
+    Limits {
+        stack: limits.stack,
+        cells: LEAST_CELLS,
+        steps: limits.steps,
+    }
 }
 
 /// A run of unchanged code: the machine, the words of its stack, the image's tables and the threads.
@@ -69,7 +81,8 @@ impl PlainRun {
     {
         let code = Code::of(alloc, image)?;
         let threads = Threads::open(alloc, limits.cells)?;
-        let board = PlainBoard::open::<Brand>(alloc, limits, 1)?;
+        let sizes = stack_alone(limits);
+        let board = PlainBoard::open::<Brand>(alloc, &sizes, 1)?;
         let high = STACK_START + u64::from(limits.stack);
         let mut machine = Machine::new(STACK_START, high);
         machine.set_reg(Reg::Sp, high);
@@ -84,31 +97,55 @@ impl PlainRun {
         })
     }
 
-    /// Whether the run is at the first instruction of an item.
-    fn is_at_item(&self, image: &Image) -> bool
-        ensures past { (p : Program) → (d : Data) → (limits : Limits) → (drawn : ℕ) → (s : State) → IsPast p image.now d limits drawn self.now s → result ≡ true }
-        ensures amid { (p : Program) → (d : Data) → (limits : Limits) → (drawn : ℕ) → (s : State) → (left : ℕ) → IsUnderWay p image.now d limits drawn self.now s left → left < 42 → result ≡ false }
+    /// Whether the run is at an entry of the runtime.
+    pub fn is_at_entry(&self) -> bool
+        ensures { result ≡ nat_lt self.now.machine.state.pc 0x10000 }
     {
-        let pc = self.machine.pc();
-        pc >= CODE_START
-            && !self.machine.is_half_done()
-            && image.begins.as_slice().get(word_index(pc)) == Some(&true)
+        self.machine.pc() < CODE_START
     }
 
-    /// One instruction, or what the runtime does at an entry.
-    fn turn(&mut self, image: &Image, input: &[u8]) -> Option<Ending>
+    /// How many items begin with the next instruction: one at an item's first, and none amid it.
+    pub fn begun(&self, image: &Image) -> u64
+        requires code { 0x10000 ≤ self.now.machine.state.pc }
+        requires inside { word_index self.now.machine.state.pc < length image.now.begins }
+        ensures ready { (p : Program) → (d : Data) → (limits : Limits) → (s : State) → IsReady p image.now d limits self.now s → result ≡ 1 }
+        ensures amid { (p : Program) → (d : Data) → (limits : Limits) → (drawn : ℕ) → (s : State) → (left : ℕ) → IsUnderWay p image.now d limits drawn self.now s left → left < 42 → result ≡ 0 }
+    {
+        if self.machine.is_half_done() {
+            return 0;
+        }
+        u64::from(image.begins.as_slice()[word_index(self.machine.pc())])
+    }
+
+    /// Does what the runtime does at the entry at which the run is.
+    ///
+    /// Amid an item the run is amid it still, with fewer turns left, or it stands for the next state of the ordinary-call run; it says why
+    /// the run ends where the item ends it or meets a limit.
+    pub fn serve(&mut self, image: &Image) -> Option<Ending>
+        requires entry { self.old.machine.state.pc < 0x10000 }
+        requires board { HasBoard self.old.board }
+        requires amid { ∥ ((p : Program) × (d : Data) × (limits : Limits) × (drawn : ℕ) × (s : State) × (left : ℕ) × IsUnderWay p image.now d limits drawn self.old s left) ∥₁ }
+        ensures board { HasBoard self.new.board }
+        ensures going { result ≡ None → (p : Program) → (d : Data) → (limits : Limits) → (drawn : ℕ) → (s : State) → (left : ℕ) → IsUnderWay p image.now d limits drawn self.old s left → TurnLeads p image.now d limits drawn self.new s left }
+        ensures over { IfSome result (λ ending. (p : Program) → (d : Data) → (limits : Limits) → (drawn : ℕ) → (s : State) → (left : ℕ) → IsUnderWay p image.now d limits drawn self.old s left → EndsBy p d limits drawn self.new.threads.notes.items.items self.new.threads.out.items.items s ending) }
+    {
+        self.enter(image)
+    }
+
+    /// Runs one instruction, or half of a store of less than eight bytes.
+    ///
+    /// Amid an item the run is amid it still, with fewer turns left, or it stands for the next state of the ordinary-call run; it says why
+    /// the run ends where the item ends it or meets a limit.
+    pub fn instruction(&mut self, image: &Image, input: &[u8]) -> Option<Ending>
+        requires code { 0x10000 ≤ self.old.machine.state.pc }
         requires board { HasBoard self.old.board }
         requires amid { ∥ ((p : Program) × (limits : Limits) × (drawn : ℕ) × (s : State) × (left : ℕ) × IsUnderWay p image.now (data_of image.now.rodata input.now) limits drawn self.old s left) ∥₁ }
         ensures board { HasBoard self.new.board }
-        ensures going { result ≡ None → (p : Program) → (limits : Limits) → (drawn : ℕ) → (s : State) → (left : ℕ) → IsUnderWay p image.now (data_of image.now.rodata input.now) limits drawn self.old s left → ((less : ℕ) × (less < left) × (less < 42) × IsUnderWay p image.now (data_of image.now.rodata input.now) limits drawn self.new s less) ⊎ IsPast p image.now (data_of image.now.rodata input.now) limits drawn self.new s }
+        ensures going { result ≡ None → (p : Program) → (limits : Limits) → (drawn : ℕ) → (s : State) → (left : ℕ) → IsUnderWay p image.now (data_of image.now.rodata input.now) limits drawn self.old s left → TurnLeads p image.now (data_of image.now.rodata input.now) limits drawn self.new s left }
         ensures over { IfSome result (λ ending. (p : Program) → (limits : Limits) → (drawn : ℕ) → (s : State) → (left : ℕ) → IsUnderWay p image.now (data_of image.now.rodata input.now) limits drawn self.old s left → EndsBy p (data_of image.now.rodata input.now) limits drawn self.new.threads.notes.items.items self.new.threads.out.items.items s ending) }
     {
-        let pc = self.machine.pc();
-        if pc < CODE_START {
-            return self.enter(image);
-        }
-        let at = word_index(pc);
-        let instruction = self.code.instructions[at];
+        let at = word_index(self.machine.pc());
+        let instruction = &self.code.instructions[at];
         let end = self.machine.execute::<PlainBoard, Plainly>(
             instruction,
             image.rodata.as_slice(),
@@ -127,27 +164,6 @@ impl PlainRun {
             }
             StepEnd::Entry(_) => unreachable!(),
         }
-    }
-
-    /// Runs the item at whose first instruction the run is, up to the next item's.
-    ///
-    /// The run then stands for the next state of the ordinary-call run; it says why the run ends where the item ends it or meets a limit.
-    pub fn item(&mut self, image: &Image, input: &[u8]) -> Option<Ending>
-        requires board { HasBoard self.old.board }
-        requires ready { ∥ ((p : Program) × (limits : Limits) × (s : State) × IsReady p image.now (data_of image.now.rodata input.now) limits self.old s) ∥₁ }
-        ensures board { HasBoard self.new.board }
-        ensures going { result ≡ None → (p : Program) → (limits : Limits) → (s : State) → IsReady p image.now (data_of image.now.rodata input.now) limits self.old s → IsPast p image.now (data_of image.now.rodata input.now) limits (length self.old.threads.cells.items.items) self.new s }
-        ensures over { IfSome result (λ ending. (p : Program) → (limits : Limits) → (s : State) → IsReady p image.now (data_of image.now.rodata input.now) limits self.old s → EndsBy p (data_of image.now.rodata input.now) limits (length self.old.threads.cells.items.items) self.new.threads.notes.items.items self.new.threads.out.items.items s ending) }
-    {
-        for _ in 0..MOST_TURNS {
-            if let Some(ending) = self.turn(image, input) {
-                return Some(ending);
-            }
-            if self.is_at_item(image) {
-                return None;
-            }
-        }
-        unreachable!()
     }
 
     /// The end of the run, which the running thread ends so. Takes no memory.

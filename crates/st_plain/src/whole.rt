@@ -27,6 +27,7 @@ pub enum PlainEnd {
 /// instruction.
 ///
 /// Errors: too little memory.
+#[inline(never)]
 pub fn plain(
     alloc: Global,
     image: &Image,
@@ -39,10 +40,22 @@ pub fn plain(
     ensures ended { IfOk result (λ end. end ≢ PlainEnd.Ended OrdEnd.Going) }
 {
     let mut run = PlainRun::open(alloc, image, input, limits)?;
-    for _ in 0..limits.steps {
-        if let Some(ending) = run.item(image, input) {
+    let mut left = limits.steps;
+    for _ in 0..u64::MAX {
+        if run.is_at_entry() {
+            if let Some(ending) = run.serve(image) {
+                return Ok(run.into_end(ending));
+            }
+            continue;
+        }
+        let begun = run.begun(image);
+        if left < begun {
+            return Ok(PlainEnd::Limit(LimitKind::Step { worker: 0 }));
+        }
+        left -= begun;
+        if let Some(ending) = run.instruction(image, input) {
             return Ok(run.into_end(ending));
         }
     }
-    Ok(PlainEnd::Limit(LimitKind::Step { worker: 0 }))
+    unreachable!()
 }

@@ -10,3 +10,5 @@ pub mod Restoring
 pub mod Freeing
 pub mod Epilogues
 pub mod Steps
+pub mod Sorting
+pub mod StackWords

@@ -5,6 +5,7 @@ use Rattle.st_rv.specs.Results.{access_size, extended}
 use Rattle.st_step.specs.declared.state.State.{State}
 use Rattle.st_step.specs.declared.act.Act.{Act}
 use Rattle.st_step.specs.declared.act.Act.TheVariants as acts
+use Rattle.st_step.specs.Sorts.{word_at}
 use Rattle.st_step.specs.Moves.{Move, Goes, Reads, Writes, Marks, Stops, Outside, results, at_place, written, goes_on, bytes_of}
 
 -- the move of a machine that an act stands for
@@ -12,6 +13,8 @@ abbrev pub move_by : State → Act → Move
 move_by m (acts.Result rd value) = Goes (results m rd value)
 move_by m (acts.Go pc) = Goes (at_place pc m)
 move_by m (acts.Link rd pc) = Goes (at_place pc (written m rd (m.pc + 4)))
+move_by m (acts.LoadWord rd address) = word_at address (λ place. Reads place (λ n. results m rd (bytes_of n 0 8)))
+move_by m (acts.StoreWord address value) = word_at address (λ place. Writes place value (goes_on m))
 move_by m (acts.Load op rd place address) = Reads place (λ n. results m rd (extended op (bytes_of n (address % 8) (access_size op))))
 move_by m (acts.Fetch place) = Reads place (λ n. record m { half = Some n })
 move_by m (acts.Store place value) = Writes place value (goes_on m)

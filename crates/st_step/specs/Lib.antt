@@ -1,3 +1,4 @@
 pub mod Moves
 pub mod Acts
 pub mod Runs
+pub mod Sorts

@@ -1,7 +1,8 @@
-//! Addresses of loads and stores: which are to the stacks, in which word, and whether they are aligned.
-ghost use Rattle.std.specs.Prelude.{◌≡◌, ◌==◌, ◌+◌, ◌%◌, ◌^◌, ◌<◌, ◌≤◌};
+//! Accesses: which are to the stacks, in which word, and whether they are aligned; which make a frame or mark one.
+ghost use Rattle.std.specs.Prelude.{◌≡◌, true, ◌==◌, ◌+◌, ◌%◌, ◌^◌, ◌<◌, ◌≤◌};
 ghost use Rattle.st_rv.specs.Results.{access_size};
-ghost use Rattle.st_step.specs.Moves.{register, address_of, is_stack, in_one_word};
+ghost use Rattle.st_rv.specs.Op.{op_number};
+ghost use Rattle.st_step.specs.Moves.{register, address_of, is_stack, is_mark, in_one_word, makes_frame};
 ghost use Rattle.st_words.specs.Steps.{place_of};
 
 use crate::state::State;
@@ -23,8 +24,8 @@ impl State {
     }
 
     /// The address that a load, a store or a jump through a register speaks of.
-    pub(crate) fn address_of(&self, i: Ins) -> u64
-        ensures { result ≡ address_of self.now i }
+    pub(crate) fn address_of(&self, i: &Ins) -> u64
+        ensures { result ≡ address_of self.now i.now }
     {
         self.read(i.rs1).wrapping_add(word_of(i.imm))
     }
@@ -35,6 +36,29 @@ pub(crate) fn is_stack(r: Reg) -> bool
     ensures { result ≡ is_stack r }
 {
     matches!(r, Reg::S0 | Reg::Sp | Reg::Tp)
+}
+
+pub(crate) fn op_number(op: Op) -> usize
+    ensures { result ≡ op_number op }
+{
+    op as usize
+}
+
+/// Whether it is `addi sp,sp,-F` with F above 0.
+pub(crate) fn makes_frame(i: &Ins) -> bool
+    ensures { result ≡ makes_frame i.now }
+{
+    op_number(i.op) == op_number(Op::Addi)
+        && i.rd.number() == Reg::Sp.number()
+        && i.rs1.number() == Reg::Sp.number()
+        && i.imm < 0
+}
+
+/// Whether a store of a word is `sd zero,-8(tp)`.
+pub(crate) fn is_mark(i: &Ins) -> bool
+    ensures { result ≡ is_mark i.now }
+{
+    i.rs1.number() == Reg::Tp.number() && i.rs2.number() == 0 && word_of(i.imm) == word_of(-8)
 }
 
 /// Whether an access of so many bytes lies in one word of the stacks.
@@ -52,6 +76,14 @@ pub(crate) fn place_of(address: u64) -> u32
     ensures { result ≡ place_of address }
 {
     ((address - STACKS_BASE) / 8) as u32
+}
+
+/// The place of the stack word that begins at an address.
+pub(crate) fn word_place(address: u64) -> u32
+    requires { in_one_word address 8 ≡ true }
+    ensures { result ≡ place_of address }
+{
+    place_of(address)
 }
 
 /// Whether the address of an access is a multiple of its size.

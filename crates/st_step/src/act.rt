@@ -20,6 +20,16 @@ pub(crate) enum Act {
         rd: Reg,
         pc: u32,
     },
+    /// The stack word at an address goes into a register.
+    LoadWord {
+        rd: Reg,
+        address: u64,
+    },
+    /// The stack word at an address is stored.
+    StoreWord {
+        address: u64,
+        value: u64,
+    },
     /// Bytes of a stack word go into a register, as the load extends them; the low three bits of the address tell the first of them.
     Load {
         op: Op,

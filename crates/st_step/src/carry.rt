@@ -1,10 +1,13 @@
 //! Carries out what an instruction does, on the machine in place and on the board.
 ghost use Rattle.std.specs.Prelude.{◌≡◌, ◌≢◌, ◌+◌, ◌<◌, ℕ};
 ghost use Rattle.st_rv.specs.Results.{access_size, extended};
-ghost use Rattle.st_step.specs.Moves.{written, at_place, bytes_of, goes_on, results, MayMove, Moves};
+ghost use Rattle.st_step.specs.Moves.{written, at_place, bytes_of, goes_on, results, MayMove, Moves, Reads, Writes};
+ghost use Rattle.st_step.specs.Sorts.{word_at};
+ghost use Rattle.st_step.specs.declared.machine.StepEnd.TheVariants.{Ran};
 ghost use Rattle.st_step.specs.Acts.{move_by};
 ghost use Rattle.st_words.specs.Steps.{Asks};
 
+use crate::access::word_place;
 use crate::act::Act;
 use crate::bytes::bytes_of;
 use crate::machine::StepEnd;
@@ -14,15 +17,18 @@ use st_rv::ins::Op;
 use st_rv::results::{access_size, extended};
 use st_words::board::{Board, Next};
 
-/// What a load gives of a word, from its byte `at` on: a whole word, as most loads take, at once.
-#[tactic(auto, unfolding(st_rv::specs::Results::access_size, st_rv::specs::Results::extended))]
+/// All bytes of a word.
+fn whole(word: u64) -> u64
+    ensures { result ≡ bytes_of word 0 8 }
+{
+    word
+}
+
+/// What a load gives of a word, from its byte `at` on.
 fn loaded(op: Op, word: u64, at: u64) -> u64
     requires { at < 8 }
     ensures { result ≡ extended op (bytes_of word at (access_size op)) }
 {
-    if at == 0 && matches!(op, Op::Ld) {
-        return word;
-    }
     extended(op, bytes_of(word, at, access_size(op)))
 }
 
@@ -56,8 +62,9 @@ impl State {
     pub(crate) fn put(&mut self, r: Reg, v: u64)
         ensures { self.new ≡ results self.old r v }
     {
+        let next = self.pc.wrapping_add(4);
         self.write(r, v);
-        self.go_on();
+        self.go(next);
     }
 
     /// Goes on at another address, with the address behind the jump in a register.
@@ -67,6 +74,31 @@ impl State {
         let back = u64::from(self.pc) + 4;
         self.write(r, back);
         self.go(pc);
+    }
+
+    /// Loads the stack word at an address into a register, and goes on.
+    fn load_word<B: Board, N: Next>(&mut self, rd: Reg, address: u64, board: &mut B, w: u32)
+        requires serves { B.serves board.old w }
+        requires may { MayMove (λ s. Asks (B.says board.old w) (B.forward board.old) (B.moves board.old) N.after (B.view board.old w) s) (word_at address (λ place. Reads place (λ n. results self.old rd (bytes_of n 0 8)))) }
+        ensures moved { Moves (B.says board.old w) (B.did board.old w) (N.after (B.view board.old w)) (λ b. B.view b w) board.old self.old (word_at address (λ place. Reads place (λ n. results self.old rd (bytes_of n 0 8)))) Ran self.new board.new }
+        ensures serves { B.serves board.new w }
+        ensures others { (other : ℕ) → other ≢ w → B.serves board.old other → B.serves board.new other × (B.view board.new other ≡ B.view board.old other) }
+    {
+        let word = board.stack_load::<N>(w, word_place(address));
+        self.put(rd, whole(word));
+    }
+
+    /// Stores the stack word at an address, and goes on.
+    fn store_word<B: Board, N: Next>(&mut self, address: u64, value: u64, board: &mut B, w: u32)
+        requires serves { B.serves board.old w }
+        requires may { MayMove (λ s. Asks (B.says board.old w) (B.forward board.old) (B.moves board.old) N.after (B.view board.old w) s) (word_at address (λ place. Writes place value (goes_on self.old))) }
+        ensures moved { Moves (B.says board.old w) (B.did board.old w) (N.after (B.view board.old w)) (λ b. B.view b w) board.old self.old (word_at address (λ place. Writes place value (goes_on self.old))) Ran self.new board.new }
+        ensures serves { B.serves board.new w }
+        ensures others { (other : ℕ) → other ≢ w → B.serves board.old other → B.serves board.new other × (B.view board.new other ≡ B.view board.old other) }
+    {
+        let next = self.pc.wrapping_add(4);
+        board.stack_store::<N>(w, word_place(address), value);
+        self.go(next);
     }
 
     /// Carries out an act, with at most one step of the board.
@@ -86,6 +118,8 @@ impl State {
             Act::Result { rd, value } => self.put(rd, value),
             Act::Go { pc } => self.go(pc),
             Act::Link { rd, pc } => self.link(rd, pc),
+            Act::LoadWord { rd, address } => self.load_word::<B, N>(rd, address, board, w),
+            Act::StoreWord { address, value } => self.store_word::<B, N>(address, value, board, w),
             Act::Load {
                 op,
                 rd,

@@ -1,29 +1,24 @@
 //! What an instruction does on the machine as it stands: one function for each kind, by the definition of that kind.
-ghost use Rattle.std.specs.Prelude.{◌≡◌, ◌==◌, ◌≤◌, IsTrue, true};
-ghost use Rattle.st_base.specs.Reg.{reg_number};
-ghost use Rattle.st_rv.specs.Op.{op_number};
-ghost use Rattle.st_rv.specs.Results.{alu, computes, access_size};
+ghost use Rattle.std.specs.Prelude.{◌≡◌, ◌==◌, ◌+◌, IsTrue, true, false, nat_lt};
+ghost use Rattle.st_base.specs.declared.reg.Reg.TheVariants.{Sp};
+ghost use Rattle.st_rv.specs.Results.{alu, computes, access_size, is_taken};
 ghost use Rattle.st_model.specs.Memory.{data_of};
 ghost use Rattle.st_step.specs.declared.state.State.{State};
-ghost use Rattle.st_step.specs.Moves.{from_pc, next_pc, register_move, makes_frame, frame_of, lacks_room, immediate_move, upper_move, stack_load, data_load, load_move, is_mark, word_store, short_store, stack_store, store_move, branch_move, indirect_move, jump_move, move_of, in_one_word};
+ghost use Rattle.st_step.specs.Moves.{Marks, Writes, address_of, from_pc, goes_on, register, results, makes_frame, frame_of, lacks_room, immediate_move, upper_move, stack_load, data_load, is_mark, word_store, short_store, stack_store, store_move, indirect_move, jump_move, move_of, in_one_word};
 ghost use Rattle.st_step.specs.Acts.{move_by, IsBounded};
+ghost use Rattle.st_step.specs.Sorts.{branch_by, branched, frame_move, has_result, immediate_by, register_by, sorted_move, word_at, word_load};
 
-use crate::access::{in_one_word, is_aligned, is_stack, place_of};
+use crate::access::{in_one_word, is_aligned, is_mark, is_stack, makes_frame, place_of};
 use crate::act::Act;
 use crate::bytes::with_bytes;
 use crate::machine::StepEnd;
+use crate::sort::{Sort, Sorted};
 use crate::state::State;
 use st_base::reg::Reg;
 use st_base::thread::TrapKind;
 use st_model::memory::load_data;
-use st_rv::ins::{Ins, Op, OpKind};
+use st_rv::ins::{Ins, Op};
 use st_rv::results::{access_size, alu, extended, is_taken, word_of};
-
-fn op_number(op: Op) -> usize
-    ensures { result ≡ op_number op }
-{
-    op as usize
-}
 
 /// An address so far from another, in the 32 bits of the pc.
 fn from_pc(pc: u32, offset: i64) -> u32
@@ -34,42 +29,32 @@ fn from_pc(pc: u32, offset: i64) -> u32
 
 // ---- results
 
-/// The result of an instruction on two numbers: sums, which are the most of them, at once.
-#[tactic(auto, unfolding(st_rv::specs::Results::alu))]
-fn result_of(op: Op, a: u64, b: u64) -> u64
+/// The result of an operation on two registers.
+fn register_by(m: &State, i: &Ins, op: Op) -> Act
     requires { IsTrue (computes op) }
-    ensures { result ≡ alu op a b }
-{
-    match op {
-        Op::Add | Op::Addi => a.wrapping_add(b),
-        _ => alu(op, a, b),
-    }
-}
-
-fn register_act(m: &State, i: Ins) -> Act
-    requires { IsTrue (computes i.op) }
-    ensures { move_by m.now result ≡ register_move m.now i }
+    ensures { move_by m.now result ≡ register_by op m.now i.now }
 {
     Act::Result {
         rd: i.rd,
-        value: result_of(i.op, m.read(i.rs1), m.read(i.rs2)),
+        value: alu(op, m.read(i.rs1), m.read(i.rs2)),
     }
 }
 
-/// Whether it is `addi sp,sp,-F` with F above 0.
-fn makes_frame(i: Ins) -> bool
-    ensures { result ≡ makes_frame i }
+/// The result of an operation on a register and an immediate.
+fn immediate_by(m: &State, i: &Ins, op: Op) -> Act
+    requires { IsTrue (computes op) }
+    ensures { move_by m.now result ≡ immediate_by op m.now i.now }
 {
-    op_number(i.op) == op_number(Op::Addi)
-        && i.rd.number() == Reg::Sp.number()
-        && i.rs1.number() == Reg::Sp.number()
-        && i.imm < 0
+    Act::Result {
+        rd: i.rd,
+        value: alu(op, m.read(i.rs1), word_of(i.imm)),
+    }
 }
 
 /// The bytes of the frame that it makes.
-fn frame_of(i: Ins) -> u32
-    requires { IsBounded i }
-    ensures { result ≡ frame_of i }
+fn frame_of(i: &Ins) -> u32
+    requires { IsBounded i.now }
+    ensures { result ≡ frame_of i.now }
 {
     if i.imm < 0 {
         i.imm.unsigned_abs() as u32
@@ -78,31 +63,41 @@ fn frame_of(i: Ins) -> u32
     }
 }
 
-/// Whether sp would come below the stack's low end.
-fn lacks_room(m: &State, i: Ins) -> bool
-    requires { IsBounded i }
-    ensures { result ≡ lacks_room m.now i }
+/// Whether sp would come so far below the stack's low end.
+fn lacks_room(m: &State, frame: u32) -> bool
+    ensures { result ≡ nat_lt (register m.now Sp) (m.now.lo + frame) }
 {
-    makes_frame(i) && u128::from(m.read(Reg::Sp)) < u128::from(m.lo) + u128::from(frame_of(i))
+    u128::from(m.read(Reg::Sp)) < u128::from(m.lo) + u128::from(frame)
 }
 
-fn immediate_act(m: &State, i: Ins) -> Act
-    requires computes { IsTrue (computes i.op) }
-    requires bounded { IsBounded i }
-    ensures { move_by m.now result ≡ immediate_move m.now i }
+fn frame_act(m: &State, i: &Ins) -> Act
+    requires { IsBounded i.now }
+    ensures { move_by m.now result ≡ frame_move m.now i.now }
 {
-    if lacks_room(m, i) {
+    let frame = frame_of(i);
+    if lacks_room(m, frame) {
+        return Act::Stop(StepEnd::StackFull { frame });
+    }
+    immediate_by(m, i, Op::Addi)
+}
+
+fn immediate_act(m: &State, i: &Ins) -> Act
+    requires computes { IsTrue (computes i.now.op) }
+    requires bounded { IsBounded i.now }
+    ensures { move_by m.now result ≡ immediate_move m.now i.now }
+{
+    if makes_frame(i) && lacks_room(m, frame_of(i)) {
         return Act::Stop(StepEnd::StackFull { frame: frame_of(i) });
     }
     Act::Result {
         rd: i.rd,
-        value: result_of(i.op, m.read(i.rs1), word_of(i.imm)),
+        value: alu(i.op, m.read(i.rs1), word_of(i.imm)),
     }
 }
 
-fn upper_act(i: Ins) -> Act
-    requires { IsTrue (computes i.op) }
-    ensures { (m : State) → move_by m result ≡ upper_move m i }
+fn upper_act(i: &Ins) -> Act
+    requires { IsTrue (computes i.now.op) }
+    ensures { (m : State) → move_by m result ≡ upper_move m i.now }
 {
     Act::Result {
         rd: i.rd,
@@ -112,23 +107,19 @@ fn upper_act(i: Ins) -> Act
 
 // ---- loads
 
-/// The bytes that an access moves: those of whole words, which are the most of them, at once.
-#[tactic(auto, unfolding(st_rv::specs::Results::access_size))]
-fn size_of(op: Op) -> usize
-    ensures is { result ≡ access_size op }
-    ensures most { result ≤ 8 }
+fn word_load(m: &State, i: &Ins) -> Act
+    ensures { move_by m.now result ≡ word_at (address_of m.now i.now) (word_load m.now i.now) }
 {
-    match op {
-        Op::Ld | Op::Sd => 8,
-        _ => access_size(op),
+    Act::LoadWord {
+        rd: i.rd,
+        address: m.address_of(i),
     }
 }
 
-fn stack_load(i: Ins, address: u64) -> Act
-    ensures { (m : State) → move_by m result ≡ stack_load m i address }
+fn stack_load(i: &Ins, address: u64) -> Act
+    ensures { (m : State) → move_by m result ≡ stack_load m i.now address }
 {
-    let size = size_of(i.op);
-    if !in_one_word(address, size) {
+    if !in_one_word(address, access_size(i.op)) {
         return Act::Outside;
     }
     Act::Load {
@@ -139,8 +130,8 @@ fn stack_load(i: Ins, address: u64) -> Act
     }
 }
 
-fn data_load(i: Ins, rodata: &[u8], input: &[u8], address: u64) -> Act
-    ensures { (m : State) → move_by m result ≡ data_load (data_of rodata.now input.now) m i address }
+fn data_load(i: &Ins, rodata: &[u8], input: &[u8], address: u64) -> Act
+    ensures { (m : State) → move_by m result ≡ data_load (data_of rodata.now input.now) m i.now address }
 {
     if !is_aligned(i.op, address) {
         return Act::Stop(StepEnd::Trap(TrapKind::Misaligned));
@@ -154,28 +145,32 @@ fn data_load(i: Ins, rodata: &[u8], input: &[u8], address: u64) -> Act
     }
 }
 
-fn load_act(m: &State, i: Ins, rodata: &[u8], input: &[u8]) -> Act
-    ensures { move_by m.now result ≡ load_move (data_of rodata.now input.now) m.now i }
+// ---- stores
+
+/// A store of a word that isn't the mark.
+fn plain_store(m: &State, i: &Ins) -> Act
+    ensures { move_by m.now result ≡ word_at (address_of m.now i.now) (λ place. Writes place (register m.now i.now.rs2) (goes_on m.now)) }
 {
-    let address = m.address_of(i);
-    if is_stack(i.rs1) {
-        stack_load(i, address)
-    } else {
-        data_load(i, rodata, input, address)
+    Act::StoreWord {
+        address: m.address_of(i),
+        value: m.read(i.rs2),
     }
 }
 
-// ---- stores
-
-/// Whether it is `sd zero,-8(tp)`.
-fn is_mark(i: Ins) -> bool
-    ensures { result ≡ is_mark i }
+fn mark(m: &State, i: &Ins) -> Act
+    ensures { move_by m.now result ≡ word_at (address_of m.now i.now) (λ place. Marks place (goes_on m.now)) }
 {
-    i.rs1.number() == Reg::Tp.number() && i.rs2.number() == 0 && word_of(i.imm) == word_of(-8)
+    let address = m.address_of(i);
+    if !in_one_word(address, 8) {
+        return Act::Outside;
+    }
+    Act::Mark {
+        place: place_of(address),
+    }
 }
 
-fn word_store(m: &State, i: Ins, place: u32) -> Act
-    ensures { move_by m.now result ≡ word_store m.now i place }
+fn word_store(m: &State, i: &Ins, place: u32) -> Act
+    ensures { move_by m.now result ≡ word_store m.now i.now place }
 {
     if is_mark(i) {
         return Act::Mark { place };
@@ -187,11 +182,11 @@ fn word_store(m: &State, i: Ins, place: u32) -> Act
 }
 
 /// The two steps of a store of less than eight bytes: its word is loaded, and then stored with the new bytes.
-fn short_store(m: &State, i: Ins, address: u64) -> Act
-    requires { in_one_word address (access_size i.op) ≡ true }
-    ensures { move_by m.now result ≡ short_store m.now i address m.now.half }
+fn short_store(m: &State, i: &Ins, address: u64) -> Act
+    requires { in_one_word address (access_size i.now.op) ≡ true }
+    ensures { move_by m.now result ≡ short_store m.now i.now address m.now.half }
 {
-    let size = size_of(i.op);
+    let size = access_size(i.op);
     let place = place_of(address);
     match m.half {
         None => Act::Fetch { place },
@@ -202,10 +197,10 @@ fn short_store(m: &State, i: Ins, address: u64) -> Act
     }
 }
 
-fn stack_store(m: &State, i: Ins, address: u64) -> Act
-    ensures { move_by m.now result ≡ stack_store m.now i address }
+fn stack_store(m: &State, i: &Ins, address: u64) -> Act
+    ensures { move_by m.now result ≡ stack_store m.now i.now address }
 {
-    let size = size_of(i.op);
+    let size = access_size(i.op);
     if !in_one_word(address, size) {
         return Act::Outside;
     }
@@ -215,8 +210,8 @@ fn stack_store(m: &State, i: Ins, address: u64) -> Act
     short_store(m, i, address)
 }
 
-fn store_act(m: &State, i: Ins) -> Act
-    ensures { move_by m.now result ≡ store_move m.now i }
+fn store_act(m: &State, i: &Ins) -> Act
+    ensures { move_by m.now result ≡ store_move m.now i.now }
 {
     if !is_stack(i.rs1) {
         return Act::Outside;
@@ -226,10 +221,10 @@ fn store_act(m: &State, i: Ins) -> Act
 
 // ---- jumps
 
-fn branch_act(m: &State, i: Ins) -> Act
-    ensures { move_by m.now result ≡ branch_move m.now i }
+fn branched(m: &State, i: &Ins, taken: bool) -> Act
+    ensures { move_by m.now result ≡ branched m.now i.now taken }
 {
-    if is_taken(i.op, m.read(i.rs1), m.read(i.rs2)) {
+    if taken {
         return Act::Go {
             pc: from_pc(m.pc, i.imm),
         };
@@ -239,9 +234,16 @@ fn branch_act(m: &State, i: Ins) -> Act
     }
 }
 
+/// A branch by the test of an operation.
+fn branch_by(m: &State, i: &Ins, op: Op) -> Act
+    ensures { move_by m.now result ≡ branch_by op m.now i.now }
+{
+    branched(m, i, is_taken(op, m.read(i.rs1), m.read(i.rs2)))
+}
+
 /// A jump through a register: its target has an even address, of 32 bits here.
-fn indirect_act(i: Ins, target: u64) -> Act
-    ensures { (m : State) → move_by m result ≡ indirect_move m i target }
+fn indirect_act(i: &Ins, target: u64) -> Act
+    ensures { (m : State) → move_by m result ≡ indirect_move m i.now target }
 {
     if target > u64::from(u32::MAX) {
         return Act::Outside;
@@ -252,12 +254,9 @@ fn indirect_act(i: Ins, target: u64) -> Act
     }
 }
 
-fn jump_act(m: &State, i: Ins) -> Act
-    ensures { move_by m.now result ≡ jump_move (op_number i.op == op_number Op.Jalr) m.now i }
+fn jump_act(m: &State, i: &Ins) -> Act
+    ensures { move_by m.now result ≡ jump_move false m.now i.now }
 {
-    if op_number(i.op) == op_number(Op::Jalr) {
-        return indirect_act(i, m.address_of(i));
-    }
     Act::Link {
         rd: i.rd,
         pc: from_pc(m.pc, i.imm),
@@ -266,20 +265,53 @@ fn jump_act(m: &State, i: Ins) -> Act
 
 // ---- all of them
 
-/// What an instruction does on the machine as it stands, with these read-only data and this input.
-#[tactic(auto, unfolding(crate::specs::Moves::move_of))]
-pub(crate) fn act_of(m: &State, i: Ins, rodata: &[u8], input: &[u8]) -> Act
-    requires { IsBounded i }
-    ensures { move_by m.now result ≡ move_of (data_of rodata.now input.now) m.now i }
+/// What an instruction of a sort does.
+#[tactic(auto, unfolding(crate::specs::Sorts::sorted_move))]
+fn sorted_act(m: &State, sort: Sort, i: &Ins, rodata: &[u8], input: &[u8]) -> Act
+    requires bounded { IsBounded i.now }
+    requires computed { has_result sort i.now ≡ true }
+    ensures { move_by m.now result ≡ sorted_move sort (data_of rodata.now input.now) m.now i.now }
 {
-    match i.op.kind() {
-        OpKind::Register => register_act(m, i),
-        OpKind::Immediate => immediate_act(m, i),
-        OpKind::Upper => upper_act(i),
-        OpKind::Load => load_act(m, i, rodata, input),
-        OpKind::Store => store_act(m, i),
-        OpKind::Branch => branch_act(m, i),
-        OpKind::Jump => jump_act(m, i),
-        OpKind::Break => Act::Stop(StepEnd::Trap(TrapKind::Abort)),
+    match sort {
+        Sort::Sum => register_by(m, i, Op::Add),
+        Sort::Difference => register_by(m, i, Op::Sub),
+        Sort::Product => register_by(m, i, Op::Mul),
+        Sort::And => register_by(m, i, Op::And),
+        Sort::Or => register_by(m, i, Op::Or),
+        Sort::Xor => register_by(m, i, Op::Xor),
+        Sort::SumImmediate => immediate_by(m, i, Op::Addi),
+        Sort::AndImmediate => immediate_by(m, i, Op::Andi),
+        Sort::XorImmediate => immediate_by(m, i, Op::Xori),
+        Sort::LeftShift => immediate_by(m, i, Op::Slli),
+        Sort::RightShift => immediate_by(m, i, Op::Srli),
+        Sort::LessImmediate => immediate_by(m, i, Op::Sltiu),
+        Sort::Frame => frame_act(m, i),
+        Sort::Register => register_by(m, i, i.op),
+        Sort::Immediate => immediate_act(m, i),
+        Sort::Upper => upper_act(i),
+        Sort::WordLoad => word_load(m, i),
+        Sort::StackLoad => stack_load(i, m.address_of(i)),
+        Sort::DataLoad => data_load(i, rodata, input, m.address_of(i)),
+        Sort::WordStore => plain_store(m, i),
+        Sort::Mark => mark(m, i),
+        Sort::Store => store_act(m, i),
+        Sort::Equal => branch_by(m, i, Op::Beq),
+        Sort::Unequal => branch_by(m, i, Op::Bne),
+        Sort::Less => branch_by(m, i, Op::Blt),
+        Sort::NotLess => branch_by(m, i, Op::Bge),
+        Sort::LessUnsigned => branch_by(m, i, Op::Bltu),
+        Sort::NotLessUnsigned => branch_by(m, i, Op::Bgeu),
+        Sort::Branch => branch_by(m, i, i.op),
+        Sort::Jump => jump_act(m, i),
+        Sort::IndirectJump => indirect_act(i, m.address_of(i)),
+        Sort::Break => Act::Stop(StepEnd::Trap(TrapKind::Abort)),
     }
+}
+
+/// What an instruction does on the machine as it stands, with these read-only data and this input.
+pub(crate) fn act_of(m: &State, i: &Sorted, rodata: &[u8], input: &[u8]) -> Act
+    requires { IsBounded i.now.ins }
+    ensures { move_by m.now result ≡ move_of (data_of rodata.now input.now) m.now i.now.ins }
+{
+    sorted_act(m, i.sort, &i.ins, rodata, input)
 }

@@ -3,9 +3,9 @@
 //! `Machine::step` is one instruction by the manual's results (`specs/Moves`), or half of a store of less than eight bytes. Loads and
 //! stores through s0, sp and tp are steps of the board; other loads see exactly the read-only data and the input. Nothing here takes memory.
 //!
-//! A step takes the instruction at the pc from the image (`stepping`), chooses what it does as an `Act` (`choose`, which only looks at the
-//! machine), and carries that out on the machine in place and on the board (`carry`). What stretches of laid out code do on it, as
-//! prologues and epilogues, stands in `laws`.
+//! A step takes the instruction at the pc from the image (`stepping`), sorts it (`sort`), chooses what it does as an `Act` (`choose`, which
+//! only looks at the machine), and carries that out on the machine in place and on the board (`carry`). Who has decoded and sorted an
+//! instruction before may have it carried out alone. What stretches of laid out code do, as prologues and epilogues, stands in `laws`.
 #![tactic(auto)]
 
 mod access;
@@ -15,10 +15,12 @@ mod carry;
 mod choose;
 pub mod laws;
 mod machine;
+mod sort;
 mod state;
 mod stepping;
 
 pub use machine::{Machine, StepEnd};
+pub use sort::{Sort, Sorted};
 pub use state::State;
 
 #[cfg(test)]

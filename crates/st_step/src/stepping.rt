@@ -9,6 +9,7 @@ ghost use Rattle.st_words.specs.Steps.{Asks};
 
 use crate::choose::act_of;
 use crate::machine::{Machine, StepEnd};
+use crate::sort::Sorted;
 use st_base::image::Image;
 use st_rv::code::decode;
 use st_rv::ins::Ins;
@@ -56,22 +57,22 @@ impl Machine {
         let Some(i) = fetched(image, pc) else {
             unreachable!()
         };
-        self.execute::<B, N>(i, image.rodata.as_slice(), input, board, w)
+        self.execute::<B, N>(&Sorted::of(i), image.rodata.as_slice(), input, board, w)
     }
 
-    /// One instruction, or half of a store of less than eight bytes, that the caller has decoded; it takes no memory.
+    /// One instruction, or half of a store of less than eight bytes, that the caller has decoded and sorted; it takes no memory.
     pub fn execute<B: Board, N: Next>(
         &mut self,
-        i: Ins,
+        i: &Sorted,
         rodata: &[u8],
         input: &[u8],
         board: &mut B,
         w: u32,
     ) -> StepEnd
         requires serves { B.serves board.old w }
-        requires bounded { IsBounded i }
-        requires may { MayMove (λ s. Asks (B.says board.old w) (B.forward board.old) (B.moves board.old) N.after (B.view board.old w) s) (move_of (data_of rodata.now input.now) self.old.state i) }
-        ensures moved { Moves (B.says board.old w) (B.did board.old w) (N.after (B.view board.old w)) (λ b. B.view b w) board.old self.old.state (move_of (data_of rodata.now input.now) self.old.state i) result self.new.state board.new }
+        requires bounded { IsBounded i.now.ins }
+        requires may { MayMove (λ s. Asks (B.says board.old w) (B.forward board.old) (B.moves board.old) N.after (B.view board.old w) s) (move_of (data_of rodata.now input.now) self.old.state i.now.ins) }
+        ensures moved { Moves (B.says board.old w) (B.did board.old w) (N.after (B.view board.old w)) (λ b. B.view b w) board.old self.old.state (move_of (data_of rodata.now input.now) self.old.state i.now.ins) result self.new.state board.new }
         ensures serves { B.serves board.new w }
         ensures others { (other : ℕ) → other ≢ w → B.serves board.old other → B.serves board.new other × (B.view board.new other ≡ B.view board.old other) }
     {

@@ -5,6 +5,7 @@ use crate::act::Act;
 use crate::bytes::{bytes_of, with_bytes};
 use crate::choose::act_of;
 use crate::machine::StepEnd;
+use crate::sort::Sorted;
 use crate::state::State;
 use crate::stepping::is_entry;
 use st_base::reg::Reg;
@@ -47,7 +48,8 @@ fn ins(op: Op, rd: Reg, rs1: Reg, rs2: Reg, imm: i32) -> Ins
 }
 
 fn act(m: &State, op: Op, rd: Reg, rs1: Reg, rs2: Reg, imm: i32) -> Act {
-    act_of(m, ins(op, rd, rs1, rs2, imm), &RODATA, &INPUT)
+    let i = ins(op, rd, rs1, rs2, imm);
+    act_of(m, &Sorted::of(i), &RODATA, &INPUT)
 }
 
 #[test]
@@ -150,8 +152,8 @@ fn stores_take_one_step_or_two(rt: HostRuntime) {
     m.write(Reg::A0, 0xaabb_ccdd);
     assert_eq!(rt;
         act(&m, Op::Sd, Reg::Zero, Reg::Sp, Reg::A0, 8),
-        Act::Store {
-            place: 33,
+        Act::StoreWord {
+            address: LOW_END + 0x108,
             value: 0xaabb_ccdd
         }
     );
@@ -185,8 +187,8 @@ fn stores_take_one_step_or_two(rt: HostRuntime) {
     );
     assert_eq!(rt;
         act(&m, Op::Sd, Reg::Zero, Reg::Tp, Reg::A0, -8),
-        Act::Store {
-            place: 31,
+        Act::StoreWord {
+            address: LOW_END + 0xf8,
             value: 0xaabb_ccdd
         }
     );

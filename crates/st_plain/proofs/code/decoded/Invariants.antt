@@ -1,8 +1,9 @@
 use Rattle.std.proofs.Common.{List, drop}
 use Rattle.st_rv.specs.declared.ins.Ins.{Ins}
 use Rattle.st_model.specs.Layout.{AreWords}
+use Rattle.st_plain.specs.Code.{instructions_of}
 use Rattle.st_plain.proofs.Decoding.{IsDecoded}
 use Rattle.st_plain.proofs.code.decoded.Given as goal
 
 abbrev pub invariant-loop-word : goal.invariant-loop-word
-invariant-loop-word l = (whole : List Ins) → AreWords whole l.words → IsDecoded l.found.items (drop l.word-index l.words) whole
+invariant-loop-word l = (whole : List Ins) → AreWords whole l.words → IsDecoded (instructions_of l.found.items) (drop l.word-index l.words) whole

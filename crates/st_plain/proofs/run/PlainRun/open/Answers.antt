@@ -7,7 +7,7 @@ use Rattle.st_plain.proofs.run.PlainRun.open.Goals as goal
 
 pub returns-clause-ready : goal.returns-clause-ready
 returns-clause-ready c = λ p s pi starts defined.
-    opened_ready p c.args.image.now (data_of c.args.image.now.rodata c.args.input.now) c.args.limits.now _ s pi starts defined
+    opened_ready p c.args.image.now (data_of c.args.image.now.rodata c.args.input.now) c.args.limits.now c.stack_alone-sizes.result _ s c.stack_alone-sizes.ensures pi starts defined
     (omega arith) (omega arith) (omega arith)
     (opened_by _ (length c.args.input.now) c.args.image.now.main_at _ _ _ _ _ c.new-machine.ensures c.set_reg.ensures c.set_reg-2.ensures c.set_reg-3.ensures c.set_pc.ensures
     ∙ ap (λ stack. opened (stack_start + stack) (length c.args.input.now) c.args.image.now.main_at) c.from-high.ensures)
@@ -16,4 +16,4 @@ returns-clause-ready c = λ p s pi starts defined.
     c.in_ok-threads.ensures.room c.in_ok-threads.ensures.cells c.in_ok-threads.ensures.notes c.in_ok-threads.ensures.out
 
 pub returns-clause-board : goal.returns-clause-board
-returns-clause-board c = board_opened c.args.limits.now c.in_ok-board.board c.in_ok-board.ensures.words c.in_ok-board.ensures.views
+returns-clause-board c = board_opened c.stack_alone-sizes.result c.in_ok-board.board c.in_ok-board.ensures.words c.in_ok-board.ensures.views
