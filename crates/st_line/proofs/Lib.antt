@@ -5,4 +5,5 @@ pub mod Ranges
 pub mod Strings
 pub mod Numbers
 pub mod Runs
+pub mod Labels
 pub mod TokenLaws

@@ -31,7 +31,7 @@ pub(crate) fn lexemes<'a>(alloc: Global, line: &'a [u8]) -> Result<Vec<Lexeme<'a
     ensures { IfOk result (λ found. lexes found.items ≡ lexemes_of line.now) }
 {
     let tokens = tokens(alloc, line)?;
-    let mut found = Vec::new(alloc);
+    let mut found = Vec::with_capacity(alloc, tokens.len())?;
     let mut before = 0;
     for token in &tokens {
         found.push(Lexeme {

@@ -20,6 +20,10 @@ pub fn line_label<'a>(alloc: Global, text: &'a [u8]) -> Result<Option<&'a [u8]>,
     if !is_allowed(text) {
         return Ok(None);
     }
+    // Without a colon there is no label, and no need to look for lexemes.
+    if !text.contains(&b':') {
+        return Ok(None);
+    }
     let lexemes = lexemes(alloc, text)?;
     let (label, _) = split_label(&lexemes);
     Ok(label)
