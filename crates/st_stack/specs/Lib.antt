@@ -1,0 +1,4 @@
+pub mod Exported
+pub mod Shrinking
+pub mod FrameLaw
+pub mod Trying
