@@ -1,0 +1,86 @@
+-- What the tests show of a board whose first worker holds the thread of cell 1, and the chains of cells 2 and 3: that a step may be asked.
+use Rattle.std.proofs.Common.{◌≡◌, ◌⊎◌, inl, inr, ℕ, ◌+◌, ◌<◌, Bool, true, [], ◌∷◌, Some, refl, sym, ap, ◌∙◌, subst, arith, eq-eqb}
+use Rattle.std.specs.List.{Contains}
+use Rattle.std.specs.Prelude.{if◌then◌else◌, ◌==◌}
+use Rattle.st_base.specs.declared.chain.Chain.{Chain}
+use Rattle.st_base.specs.declared.chain.Waiting.TheVariants as waits
+use Rattle.st_words.specs.declared.view.CellWord.TheVariants as words
+use Rattle.st_words.specs.declared.view.Slot.TheVariants.{Cell}
+use Rattle.st_words.specs.declared.view.View.{View}
+use Rattle.st_words.specs.declared.view.Waiter.{Waiter}
+use Rattle.st_words.specs.Encodings.{full_word}
+use Rattle.st_words.specs.Plain.{first_view}
+use Rattle.st_base.specs.declared.limits.Limits.{Limits}
+use Rattle.st_words.specs.Laws.{named, progress_of, IsWaiting}
+use Rattle.st_words.specs.Steps.{Step, CellLoad, CellStore, CellChange, SlotPut, Answer, Done, Can, Asks, IsLinked, HasInHand, HasThread, HasChain}
+use Rattle.st_words.specs.Views.{Does, IsFree, view_after, no_load}
+use Rattle.st_words.proofs.Lists.{contains_here, contains_later, contains_none, map_in}
+use Rattle.st_words.proofs.Naming.{named_asks, size_laws}
+use Rattle.st_words.proofs.Puts.{put_laws}
+use Rattle.st_cells.specs.Trying.{thread_of, carried_of, holding}
+
+abbrev pub MayAsk : (Step → Answer → Type 0) → View → Step → Type 0
+MayAsk says v s = Asks says IsFree Does (λ w t a. named (progress_of (holding w)) (holding w) t a) v s
+
+-- the view behind a step
+abbrev pub IsAfter : View → Step → Answer → View → Type 0
+IsAfter v s a w = w ≡ named (progress_of (holding v)) (holding v) s a
+
+pub asks : (says : Step → Answer → Type 0) (v : View) (s : Step) → Can (holding v) s → MayAsk says v s
+asks says v s can = named_asks says v (holding v) (λ t a. progress_of (holding v)) s (record { progress = progress_of (holding v); chains = (holding v).chains; names = v.names; exported = v.exported }, refl) can
+
+pub cells_kept : (v w : View) (s : Step) (a : Answer) → IsAfter v s a w → v.cells ≡ 16 → w.cells ≡ 16
+cells_kept v w s a after e = ap (λ (x : View). x.cells) after ∙ size_laws.cells (holding v) s a ∙ e
+
+-- ---- a future
+
+holds_thread : (v : View) → HasThread (holding v) 1
+holds_thread v = (thread_of 1, contains_here (thread_of 1) [], refl)
+
+pub asks_load : (says : Step → Answer → Type 0) (v : View) (c : ℕ) (word : Rattle.st_words.specs.declared.view.CellWord.CellWord) → v.cells ≡ 16 → c < 16 → MayAsk says v (CellLoad c word)
+asks_load says v c word cells l = asks says v (CellLoad c word) (omega (arith, cells))
+
+pub asks_value : (says : Step → Answer → Type 0) (v : View) (n : ℕ) → v.cells ≡ 16 → v.full ≡ [] → MayAsk says v (CellStore 1 words.Value n)
+asks_value says v n cells full = asks says v (CellStore 1 words.Value n) (omega (arith, cells), (holds_thread v, λ c. contains_none 1 (subst (λ xs. Contains xs 1) full c)))
+
+holds_chain : (v : View) (c : ℕ) → (c ≡ 2) ⊎ (c ≡ 3) → HasChain (holding v) c
+holds_chain v c (inl e) = (carried_of 2, contains_here (carried_of 2) (carried_of 3 ∷ []), sym e)
+holds_chain v c (inr e) = (carried_of 3, contains_later (carried_of 3) (carried_of 2) (carried_of 3 ∷ []) (contains_here (carried_of 3) []), sym e)
+
+pub asks_put : (says : Step → Answer → Type 0) (v : View) (c : ℕ) (chain : Chain) → v.cells ≡ 16 → c < 16 → (c ≡ 2) ⊎ (c ≡ 3) → chain.cell ≡ c → MayAsk says v (SlotPut (Cell c) chain no_load)
+asks_put says v c chain cells l one e = asks says v (SlotPut (Cell c) chain no_load) (omega (arith, cells), (e, holds_chain v c one), omega arith, omega arith)
+
+pub put_in_hand : (v w : View) (c : ℕ) (chain : Chain) → chain.wait ≡ waits.Touch 1 → IsAfter v (SlotPut (Cell c) chain no_load) Done w → HasInHand w c
+put_in_hand v w c chain wait after = subst (λ (x : View). HasInHand x c) (sym after) (put_laws.hand (holding v) c chain no_load (subst IsWaiting (sym wait) tt))
+
+pub asks_link : (says : Step → Answer → Type 0) (v : View) (c : ℕ) → v.cells ≡ 16 → c < 16 → HasInHand v c → MayAsk says v (CellStore c words.Next 0)
+asks_link says v c cells l hand = asks says v (CellStore c words.Next 0) (omega (arith, cells), (hand, omega arith))
+
+chosen : (x : Waiter) {test : Bool} → test ≡ true → (if test then record x { next = Some 0 } else x) ≡ record x { next = Some 0 }
+chosen x e = ap (λ (t : Bool). if t then record x { next = Some 0 } else x) e
+
+pub linked_in_hand : (v w : View) (c : ℕ) → HasInHand v c → IsAfter v (CellStore c words.Next 0) Done w → IsLinked w c 0
+unfolding view_after
+linked_in_hand v w c hand after =
+    let x : Waiter = hand.0 in
+    let same : (x.cell == c) ≡ true = eq-eqb x.cell c hand.2 in
+    let there : Contains w.hand (if x.cell == c then record x { next = Some 0 } else x) = subst (λ hs. Contains hs (if x.cell == c then record x { next = Some 0 } else x)) (sym (ap (λ (y : View). y.hand) after)) (map_in (λ (y : Waiter). if y.cell == c then record y { next = Some 0 } else y) v.hand x hand.1) in
+    (record x { next = Some 0 }, subst (Contains w.hand) (chosen x same) there, hand.2, refl)
+
+pub asks_park : (says : Step → Answer → Type 0) (v : View) (c : ℕ) → v.cells ≡ 16 → IsLinked v c 0 → MayAsk says v (CellChange 1 0 (c + 1))
+asks_park says v c cells linked = asks says v (CellChange 1 0 (c + 1)) (omega (arith, cells), inl (inr (holds_thread v), (λ e. omega (arith, e)), (c, linked, refl)))
+
+pub asks_fill : (says : Step → Answer → Type 0) (v : View) (seen : ℕ) → v.cells ≡ 16 → seen < 16 → MayAsk says v (CellChange 1 seen full_word)
+asks_fill says v seen cells l = asks says v (CellChange 1 seen full_word) (omega (arith, cells), inr (inl (inr (holds_thread v), (λ e. omega (arith, e)), refl)))
+
+pub one_of : (c : ℕ) → (c ≡ 2) ⊎ (c ≡ 3) → c < 16
+one_of c (inl e) = omega (arith, e)
+one_of c (inr e) = omega (arith, e)
+
+-- ---- a board that is opened
+
+pub first_cells : (limits : Limits) (v : View) → limits.cells ≡ 16 → v ≡ first_view limits 2 0 → v.cells ≡ 16
+first_cells limits v cells first = ap (λ (x : View). x.cells) first ∙ cells
+
+pub first_full : (limits : Limits) (v : View) → v ≡ first_view limits 2 0 → v.full ≡ []
+first_full limits v first = ap (λ (x : View). x.full) first

@@ -1,0 +1,160 @@
+//! The calls on cells over a board of 16 cells and two workers, with words worked out by hand.
+ghost use Rattle.std.specs.Prelude.{◌≡◌, ◌⊎◌, ◌<◌, ◌∷◌, [], length, IfOk};
+ghost use Rattle.st_words.specs.Laws.{named, progress_of};
+ghost use Rattle.st_words.specs.Plain.{view_at, first_view};
+ghost use Rattle.st_words.specs.Views.{no_load};
+ghost use Rattle.st_base.specs.declared.chain.Waiting.TheVariants.{Touch};
+ghost use Rattle.st_cells.specs.Trying.{holding};
+
+use crate::cells::{draw, fill, look, next, park, set_next, set_value, value};
+use crate::encodings::{count_after, count_in, counter_word, head_in, owner_in, owner_word};
+use crate::found::{Full, Looked, Owner};
+use st_base::chain::{Again, Chain, Note, Waiting};
+use st_base::limits::Limits;
+use st_words::board::{Board, Next};
+use st_words::plain::PlainBoard;
+use st_words::view::Slot;
+use std::alloc::{AllocError, Global};
+use std::marker::Brand;
+use std::test::Fail;
+
+/// Names the view after a step of a worker that has come to hold the thread of cell 1, and the chains of cells 2 and 3 in its turn.
+struct Holding;
+
+impl Next for Holding {
+    ghost after = { λ v s a. named (progress_of (holding v)) (holding v) s a };
+
+    ghost load = { λ _ _ _. no_load };
+}
+
+fn limits() -> Limits
+    ensures { result.cells ≡ 16 }
+{
+    Limits {
+        stack: 1024,
+        cells: 16,
+        steps: 1,
+    }
+}
+
+/// A board of two workers with 16 cells.
+fn opened(alloc: Global, limits: &Limits) -> Result<PlainBoard, AllocError>
+    ensures serves { IfOk result (λ board. 0 < length board.kept.views) }
+    ensures view { IfOk result (λ board. view_at board.kept.views 0 ≡ first_view limits.now 2 0) }
+{
+    PlainBoard::open::<Brand>(alloc, limits, 2)
+}
+
+/// The chain of a thread that waits for the future in cell 1.
+fn waiting(cell: u32) -> Chain
+    ensures { (result.cell ≡ cell) × (result.wait ≡ Touch 1) }
+{
+    Chain {
+        cell,
+        pc: 0x1_0000,
+        fp: 0x8000_0400,
+        saved: [0; 11],
+        note: Note {
+            cell,
+            forks: 0,
+            counters: 0,
+            bytes: 0,
+        },
+        wait: Waiting::Touch { cell: 1 },
+    }
+}
+
+/// A board of two workers with 16 cells, on which the first worker makes its steps.
+#[derive(Drop)]
+struct Held {
+    board: PlainBoard,
+    ghost serves: { 0 < length board.kept.views },
+    ghost cells: { (view_at board.kept.views 0).cells ≡ 16 },
+}
+
+impl Held {
+    /// Opens a board, and stores the value of the future in cell 1.
+    fn open(alloc: Global, v: u64) -> Result<Held, AllocError> {
+        let limits = limits();
+        let mut board = opened(alloc, &limits)?;
+        set_value::<PlainBoard, Holding>(&mut board, 0, 1, v);
+        Ok(Held { board })
+    }
+
+    fn draw(&mut self) -> Result<u32, Full> {
+        draw::<PlainBoard, Holding>(&mut self.board, 0, 16)
+    }
+
+    fn look(&mut self) -> Looked {
+        look::<PlainBoard, Holding>(&mut self.board, 0, 1)
+    }
+
+    fn value(&mut self) -> u64 {
+        value::<PlainBoard, Holding>(&mut self.board, 0, 1)
+    }
+
+    fn next(&mut self, waiter: u32) -> u64
+        requires { waiter < 16 }
+    {
+        next::<PlainBoard, Holding>(&mut self.board, 0, waiter)
+    }
+
+    /// Puts the chain of cell 2 or 3 into its slot, and its number into the list of cell 1 where that was empty.
+    fn wait(&mut self, waiter: u32) -> Result<(), Again>
+        requires { (waiter ≡ 2) ⊎ (waiter ≡ 3) }
+    {
+        self.board
+            .slot_put::<Holding>(0, Slot::Cell(waiter), waiting(waiter));
+        set_next::<PlainBoard, Holding>(&mut self.board, 0, waiter, 0);
+        park::<PlainBoard, Holding>(&mut self.board, 0, 1, waiter, 0)
+    }
+
+    fn fill(&mut self, seen: u64) -> Result<u64, Again>
+        requires { seen < 16 }
+    {
+        fill::<PlainBoard, Holding>(&mut self.board, 0, 1, seen)
+    }
+}
+
+#[test]
+fn numbers_are_drawn_until_there_are_no_more(rt: HostRuntime) -> Result<(), Fail> {
+    let mut held = Held::open(rt.alloc(), 7)?;
+    for number in 1..16 {
+        assert_eq!(rt; held.draw(), Ok(number));
+    }
+    assert_eq!(rt; held.draw(), Err(Full { cells: 16 }));
+    Ok(())
+}
+
+#[test]
+fn a_future_is_waited_for_and_made_full(rt: HostRuntime) -> Result<(), Fail> {
+    let mut held = Held::open(rt.alloc(), 7)?;
+    assert_eq!(rt; held.look(), Looked::Empty { seen: 0 });
+    assert_eq!(rt; held.wait(2), Ok(()));
+    assert_eq!(rt; held.wait(3), Err(Again { now: 3 }));
+    assert_eq!(rt; held.fill(3), Ok(3));
+    assert_eq!(rt; held.fill(3), Err(Again { now: 1 << 32 }));
+    assert_eq!(rt; held.look(), Looked::Full);
+    assert_eq!(rt; held.value(), 7);
+    assert_eq!(rt; held.next(2), 0);
+    Ok(())
+}
+
+#[test]
+fn words_of_cells_are_written_and_read(rt: HostRuntime) {
+    let own = Owner {
+        counter: true,
+        parent: 65_535,
+        number: 7,
+    };
+    assert_eq!(rt; owner_word(own), 2 + 131_070 + 7 * 262_144);
+    assert_eq!(rt; owner_in(2 + 131_070 + 7 * 262_144), own);
+    assert_eq!(rt; owner_in(1).parent, 0);
+    assert_eq!(rt; counter_word(count_after(count_in(0)), 0), 131_072);
+    assert_eq!(rt;
+        counter_word(count_after(count_in(131_072 + 5)), 0),
+        262_144
+    );
+    assert_eq!(rt; head_in(131_072 + 5), 5);
+    assert_eq!(rt; count_after((1 << 47) - 1), (1 << 47) - 1);
+}
