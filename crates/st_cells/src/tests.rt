@@ -1,14 +1,18 @@
 //! The calls on cells over a board of 16 cells and two workers, with words worked out by hand.
-ghost use Rattle.std.specs.Prelude.{◌≡◌, ◌⊎◌, ◌<◌, ◌∷◌, [], length, IfOk};
+ghost use Rattle.std.specs.Prelude.{◌≡◌, true, ◌⊎◌, ◌<◌, ◌∷◌, [], length, IfOk};
 ghost use Rattle.st_words.specs.Laws.{named, progress_of};
 ghost use Rattle.st_words.specs.Plain.{view_at, first_view};
 ghost use Rattle.st_words.specs.Views.{no_load};
-ghost use Rattle.st_base.specs.declared.chain.Waiting.TheVariants.{Touch};
+ghost use Rattle.st_words.specs.Steps.{IsCounter};
+ghost use Rattle.st_base.specs.declared.chain.Waiting.TheVariants.{Touch, Join};
 ghost use Rattle.st_cells.specs.Trying.{holding};
 
-use crate::cells::{draw, fill, look, next, park, set_next, set_value, value};
+use crate::cells::{
+    count, done, draw, fill, look, next, owner, park, park_join, set_next, set_owner, set_value,
+    value,
+};
 use crate::encodings::{count_after, count_in, counter_word, head_in, owner_in, owner_word};
-use crate::found::{Full, Looked, Owner};
+use crate::found::{Counted, Full, Looked, Owner};
 use st_base::chain::{Again, Chain, Note, Waiting};
 use st_base::limits::Limits;
 use st_words::board::{Board, Next};
@@ -64,6 +68,16 @@ fn waiting(cell: u32) -> Chain
     }
 }
 
+fn first_counter() -> Owner
+    ensures { result ≡ record { counter = true; parent = 0; number = 0 } }
+{
+    Owner {
+        counter: true,
+        parent: 0,
+        number: 0,
+    }
+}
+
 /// A board of two workers with 16 cells, on which the first worker makes its steps.
 #[derive(Drop)]
 struct Held {
@@ -74,7 +88,9 @@ struct Held {
 
 impl Held {
     /// Opens a board, and stores the value of the future in cell 1.
-    fn open(alloc: Global, v: u64) -> Result<Held, AllocError> {
+    fn open(alloc: Global, v: u64) -> Result<Held, AllocError>
+        ensures { IfOk result (λ held. (view_at held.board.kept.views 0).hand ≡ []) }
+    {
         let limits = limits();
         let mut board = opened(alloc, &limits)?;
         set_value::<PlainBoard, Holding>(&mut board, 0, 1, v);
@@ -83,6 +99,48 @@ impl Held {
 
     fn draw(&mut self) -> Result<u32, Full> {
         draw::<PlainBoard, Holding>(&mut self.board, 0, 16)
+    }
+
+    /// Draws a cell, and names it as the first counter of the root.
+    fn counter(&mut self) -> Result<u32, Full>
+        requires { (view_at self.old.board.kept.views 0).hand ≡ [] }
+        ensures counter { IfOk result (λ cell. (cell < 16) × IsCounter (view_at self.new.board.kept.views 0) cell) }
+        ensures hand { IfOk result (λ cell. (view_at self.new.board.kept.views 0).hand ≡ []) }
+    {
+        let cell = draw::<PlainBoard, Holding>(&mut self.board, 0, 16)?;
+        set_owner::<PlainBoard, Holding>(&mut self.board, 0, cell, first_counter());
+        Ok(cell)
+    }
+
+    fn owner(&mut self, cell: u32) -> Owner
+        requires { cell < 16 }
+    {
+        owner::<PlainBoard, Holding>(&mut self.board, 0, cell)
+    }
+
+    fn count(&mut self, cell: u32) -> Counted
+        requires { cell < 16 }
+    {
+        count::<PlainBoard, Holding>(&mut self.board, 0, cell)
+    }
+
+    fn done(&mut self, cell: u32, seen: u64) -> Result<u64, Again>
+        requires within { cell < 16 }
+        requires counter { IsCounter (view_at self.old.board.kept.views 0) cell }
+    {
+        done::<PlainBoard, Holding>(&mut self.board, 0, cell, seen)
+    }
+
+    /// Puts the chain of cell 2 into its slot, and its number into the list of a counter that is to reach 3.
+    fn join(&mut self, cell: u32) -> Result<(), Again>
+        requires within { cell < 16 }
+        requires counter { IsCounter (view_at self.old.board.kept.views 0) cell }
+        requires hand { (view_at self.old.board.kept.views 0).hand ≡ [] }
+    {
+        self.board
+            .slot_put::<Holding>(0, Slot::Cell(2), joining(cell));
+        set_next::<PlainBoard, Holding>(&mut self.board, 0, 2, 0);
+        park_join::<PlainBoard, Holding>(&mut self.board, 0, cell, 2, 3, 0)
     }
 
     fn look(&mut self) -> Looked {
@@ -116,6 +174,16 @@ impl Held {
     }
 }
 
+/// The chain of cell 2, whose thread waits until the counter in a cell has come to 3.
+fn joining(cell: u32) -> Chain
+    ensures { (result.cell ≡ 2) × (result.wait ≡ Join cell 3) }
+{
+    Chain {
+        wait: Waiting::Join { cell, least: 3 },
+        ..waiting(2)
+    }
+}
+
 #[test]
 fn numbers_are_drawn_until_there_are_no_more(rt: HostRuntime) -> Result<(), Fail> {
     let mut held = Held::open(rt.alloc(), 7)?;
@@ -137,6 +205,44 @@ fn a_future_is_waited_for_and_made_full(rt: HostRuntime) -> Result<(), Fail> {
     assert_eq!(rt; held.look(), Looked::Full);
     assert_eq!(rt; held.value(), 7);
     assert_eq!(rt; held.next(2), 0);
+    Ok(())
+}
+
+#[test]
+fn a_counter_is_named_and_counted_up(rt: HostRuntime) -> Result<(), Fail> {
+    let mut held = Held::open(rt.alloc(), 7)?;
+    let Ok(cell) = held.counter() else {
+        return Err(Fail::new("no cell is left"));
+    };
+    assert_eq!(rt; cell, 1);
+    assert_eq!(rt; held.done(cell, 0), Ok(0));
+    assert_eq!(rt;
+        held.count(cell),
+        Counted {
+            count: 1,
+            head: 0,
+            seen: 131_072
+        }
+    );
+    assert_eq!(rt; held.owner(cell), first_counter());
+    Ok(())
+}
+
+#[test]
+fn a_counter_is_waited_for(rt: HostRuntime) -> Result<(), Fail> {
+    let mut held = Held::open(rt.alloc(), 7)?;
+    let Ok(cell) = held.counter() else {
+        return Err(Fail::new("no cell is left"));
+    };
+    assert_eq!(rt; held.join(cell), Ok(()));
+    assert_eq!(rt;
+        held.count(cell),
+        Counted {
+            count: 0,
+            head: 3,
+            seen: 3
+        }
+    );
     Ok(())
 }
 
