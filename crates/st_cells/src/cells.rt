@@ -7,9 +7,7 @@ ghost use Rattle.st_cells.specs.Cells.{owner_word, FitsWord, IsDrawn, IsLooked, 
 ghost use Rattle.st_cells.specs.Calls.{Makes};
 ghost use Rattle.st_cells.specs.declared.found.Owner.{Owner};
 
-use crate::encodings::{
-    count_after, count_in, counter_word, full_word, head_in, owner_in, owner_word,
-};
+use crate::encodings::{FULL, count_after, count_in, counter_word, head_in, owner_in, owner_word};
 use crate::found::{Counted, Full, Looked, Owner};
 use st_base::chain::Again;
 use st_words::board::{Board, Next};
@@ -35,7 +33,9 @@ fn change<B: Board, N: Next>(
     }
 }
 
-/// Draws the next number of a cell. `Full` exactly where the number found isn't below `cells`; the count of drawn numbers grows by 1 in each case.
+/// Draws the next number of a cell.
+///
+/// Errors: `Full` exactly where the number found isn't below `cells`; the count of drawn numbers grows by 1 in each case.
 pub fn draw<B: Board, N: Next>(board: &mut B, w: u32, cells: u32) -> Result<u32, Full>
     requires serves { B.serves board.old w }
     requires may { Asks (B.says board.old w) (B.forward board.old) (B.moves board.old) N.after (B.view board.old w) (Draw) }
@@ -82,7 +82,7 @@ pub fn look<B: Board, N: Next>(board: &mut B, w: u32, cell: u32) -> Looked
     ensures others { (other : ℕ) → other ≢ w → B.serves board.old other → B.serves board.new other × (B.view board.new other ≡ B.view board.old other) }
 {
     let seen = board.cell_load::<N>(w, cell, CellWord::State);
-    if seen == full_word() {
+    if seen == FULL {
         Looked::Full
     } else {
         Looked::Empty { seen }
@@ -111,7 +111,9 @@ pub fn set_next<B: Board, N: Next>(board: &mut B, w: u32, waiter: u32, seen: u64
     board.cell_store::<N>(w, waiter, CellWord::Next, head_in(seen));
 }
 
-/// Puts a linked waiter at the head of a future's list, where its State word is `seen`. `Again` exactly where it is another word, which it carries; nothing has changed then.
+/// Puts a linked waiter at the head of a future's list, where its State word is `seen`.
+///
+/// Errors: `Again` exactly where it is another word, which it carries; nothing has changed then.
 pub fn park<B: Board, N: Next>(
     board: &mut B,
     w: u32,
@@ -139,7 +141,9 @@ pub fn set_value<B: Board, N: Next>(board: &mut B, w: u32, cell: u32, v: u64)
     board.cell_store::<N>(w, cell, CellWord::Value, v);
 }
 
-/// Makes a future full, where its State word is `seen`, and answers the head of its waiters: a waiter's number and 1, or 0. `Again` exactly where it is another word, which it carries; nothing has changed then.
+/// Makes a future full, where its State word is `seen`, and answers the head of its waiters: a waiter's number and 1, or 0.
+///
+/// Errors: `Again` exactly where it is another word, which it carries; nothing has changed then.
 pub fn fill<B: Board, N: Next>(board: &mut B, w: u32, cell: u32, seen: u64) -> Result<u64, Again>
     requires serves { B.serves board.old w }
     requires may { Asks (B.says board.old w) (B.forward board.old) (B.moves board.old) N.after (B.view board.old w) (CellChange cell seen full_word) }
@@ -147,7 +151,7 @@ pub fn fill<B: Board, N: Next>(board: &mut B, w: u32, cell: u32, seen: u64) -> R
     ensures serves { B.serves board.new w }
     ensures others { (other : ℕ) → other ≢ w → B.serves board.old other → B.serves board.new other × (B.view board.new other ≡ B.view board.old other) }
 {
-    change::<B, N>(board, w, cell, seen, full_word())?;
+    change::<B, N>(board, w, cell, seen, FULL)?;
     Ok(seen)
 }
 
@@ -167,7 +171,10 @@ pub fn count<B: Board, N: Next>(board: &mut B, w: u32, cell: u32) -> Counted
     }
 }
 
-/// Adds 1 to a counter, whose count stands still at 2^47 - 1, where its State word is `seen`, and answers the head of its waiters, which are handed out: a waiter's number and 1, or 0. `Again` exactly where it is another word, which it carries; nothing has changed then.
+/// Adds 1 to a counter, whose count stands still at 2^47 - 1, where its State word is `seen`, and answers the head of its waiters, which
+/// are handed out: a waiter's number and 1, or 0.
+///
+/// Errors: `Again` exactly where it is another word, which it carries; nothing has changed then.
 pub fn done<B: Board, N: Next>(board: &mut B, w: u32, cell: u32, seen: u64) -> Result<u64, Again>
     requires serves { B.serves board.old w }
     requires may { Asks (B.says board.old w) (B.forward board.old) (B.moves board.old) N.after (B.view board.old w) (CellChange cell seen (counter_word (count_after (count_in seen)) 0)) }
@@ -180,7 +187,9 @@ pub fn done<B: Board, N: Next>(board: &mut B, w: u32, cell: u32, seen: u64) -> R
     Ok(head_in(seen))
 }
 
-/// Puts a linked waiter at the head of a counter's list, where its State word is `seen`, whose count is below `least`. `Again` exactly where it is another word, which it carries; nothing has changed then.
+/// Puts a linked waiter at the head of a counter's list, where its State word is `seen`, whose count is below `least`.
+///
+/// Errors: `Again` exactly where it is another word, which it carries; nothing has changed then.
 pub fn park_join<B: Board, N: Next>(
     board: &mut B,
     w: u32,

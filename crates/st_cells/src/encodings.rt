@@ -1,17 +1,13 @@
 //! The words of cells as numbers.
 ghost use Rattle.std.specs.Prelude.{◌≡◌, ◌<◌, ◌^◌};
-ghost use Rattle.st_words.specs.Encodings.{full_word, count_in, head_in, counter_word, count_after};
+ghost use Rattle.st_words.specs.Encodings.{count_in, head_in, counter_word, count_after};
 ghost use Rattle.st_cells.specs.Cells.{owner_word, FitsWord};
 ghost use Rattle.st_cells.specs.declared.found.Owner.{Owner};
 
 use crate::found::Owner;
 
 /// The State word of a full future.
-pub(crate) fn full_word() -> u64
-    ensures { result ≡ full_word }
-{
-    1 << 32
-}
+pub(crate) const FULL: u64 = 1 << 32;
 
 /// The Owner word of a cell.
 pub(crate) fn owner_word(owner: Owner) -> u64

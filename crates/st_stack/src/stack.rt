@@ -122,8 +122,8 @@ impl PhysStack {
     /// is on this stack and not exported.
     ///
     /// It looks at the return word of the exported frame of least low end. Where that is 0, the frame is taken back. Otherwise, and where no
-    /// frame is exported, it is done: sp may lie at the limit, or at the low end of `top` where that is less, and not below `sp`. It makes at
-    /// most one step of the board, and takes no memory.
+    /// frame is exported, it is done: sp may lie at the limit, or at the low end of `top` where that is less. Where the law of frames holds,
+    /// that isn't below `sp`, which is named for this alone. It makes at most one step of the board, and takes no memory.
     pub fn shrink_step<B: Board, N: Next>(
         &mut self,
         board: &mut B,
