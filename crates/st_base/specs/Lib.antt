@@ -1,4 +1,5 @@
 pub mod Reg
+pub mod Entry
 pub mod EventKey
 pub mod Registers
 pub mod Slots

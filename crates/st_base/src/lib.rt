@@ -7,6 +7,7 @@
 
 pub mod answer;
 pub mod chain;
+pub mod entry;
 mod fault_count;
 pub mod form;
 pub mod image;
@@ -14,6 +15,7 @@ pub mod key;
 pub mod limits;
 pub mod line;
 pub mod lists;
+pub mod map;
 pub mod name;
 pub mod outside;
 pub mod outside_memory;

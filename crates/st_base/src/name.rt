@@ -1,6 +1,5 @@
 //! Names in a program's text.
-ghost use Rattle.std.specs.Prelude.{◌≡◌, IfOk, nat_eq};
-ghost use Rattle.std.specs.Cmp.Lexicographic.{pointwise};
+ghost use Rattle.std.specs.Prelude.{IsTrue, ◌↔◌, ◌≡◌, IfOk};
 
 use std::alloc::{AllocError, Global};
 use std::marker::Model;
@@ -37,7 +36,7 @@ impl Name {
 
     /// Whether two names are the same.
     pub fn is(&self, other: &Name) -> bool
-        ensures { result ≡ pointwise nat_eq self.now other.now }
+        ensures { IsTrue result ↔ (self.now ≡ other.now) }
     {
         self.bytes.as_slice() == other.bytes.as_slice()
     }

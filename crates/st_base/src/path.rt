@@ -1,6 +1,5 @@
 //! Names of threads, and byte strings.
-ghost use Rattle.std.specs.Prelude.{IsTrue, ◌↔◌, ◌≡◌, ◌++◌, ◌∷◌, [], length, OnOk, OnErr, IfOk, nat_eq};
-ghost use Rattle.std.specs.Cmp.Lexicographic.{pointwise};
+ghost use Rattle.std.specs.Prelude.{IsTrue, ◌↔◌, ◌≡◌, ◌++◌, ◌∷◌, [], length, OnOk, OnErr, IfOk};
 
 use std::alloc::{AllocError, Global};
 use std::marker::Model;
@@ -60,7 +59,7 @@ impl Path {
 
     /// Whether two paths name the same thread.
     pub fn is(&self, other: &Path) -> bool
-        ensures { result ≡ pointwise nat_eq self.now other.now }
+        ensures { IsTrue result ↔ (self.now ≡ other.now) }
     {
         self.numbers.as_slice() == other.numbers.as_slice()
     }

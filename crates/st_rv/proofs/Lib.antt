@@ -1,5 +1,4 @@
 pub mod Products
 pub mod Apart
 pub mod Masks
-pub mod Opcodes
 pub mod Table

@@ -1,15 +1,15 @@
 -- The rows of the instruction table, and the words that they give: `IsRow i w` says that w is a word of the instruction i by
--- some row of `ROWS`, and everything about encoding and decoding is said by it. A row gives a word exactly where the word has
+-- some row of `ROWS`, and everything about encoding and decoding is said by it. Read `mnemonic_of` for how an operation is written. A row gives a word exactly where the word has
 -- the row's bits under the row's mask; the other bits are the fields of the instruction. From the RISC-V Instruction Set
 -- Manual, volume I, chapter "RV32/64G Instruction Set Listings" (the tables of RV32I, RV64I, RV32M and RV64M).
-use Rattle.std.specs.Prelude.{ℕ, ◌-◌, ◌^◌, ◌<◌, ◌≡◌, Bool, true, not, ◌&&◌, List, [], ◌∷◌, Option, Some, None, IfSome, IsSome, ◌↔◌, ◌==◌, if◌then◌else◌, bit_and, bit_or, ◌⊎◌, All, AllPairs, map, slice_index_or}
-use Rattle.st_rv.specs.declared.rows.TheConstants.{ROWS, NAMES}
+use Rattle.std.specs.Prelude.{ℕ, ◌-◌, ◌^◌, ◌<◌, ◌≡◌, Bool, true, not, ◌&&◌, List, [], ◌∷◌, Option, Some, None, IfSome, IsSome, ◌↔◌, ◌==◌, if◌then◌else◌, bit_and, bit_or, ◌⊎◌, All, AllPairs, map, codes}
+use Rattle.st_rv.specs.declared.rows.TheConstants.{ROWS}
 use Rattle.st_rv.specs.declared.ins.Op.{Op}
+use Rattle.st_rv.specs.declared.ins.Op.TheVariants as operations
 use Rattle.st_rv.specs.declared.ins.Ins.{Ins}
 use Rattle.st_rv.specs.declared.rows.Row.{Row}
 use Rattle.st_rv.specs.declared.rows.Form.{Form}
 use Rattle.st_rv.specs.declared.rows.Form.TheVariants.{R, Shift6, Shift5, U, J, Fixed}
-use Rattle.st_rv.specs.Op.{op_number}
 use Rattle.st_rv.specs.Fields.{HasFields, FitsForm}
 
 -- the word has the bits of a row under its mask, and the fields of the instruction
@@ -41,10 +41,6 @@ SomeRow P (r ∷ rs) = P r ⊎ SomeRow P rs
 unfoldable pub IsRow : Ins → ℕ → Type 0
 IsRow i w = SomeRow (GivesRow i w) ROWS
 
--- the instruction has a word
-abbrev pub Encodes : Ins → Type 0
-Encodes i = (w : ℕ) × IsRow i w
-
 -- the immediate is within the range of the instruction's row, and the fields that the row doesn't use are 0
 unfoldable pub FitsTable : Ins → Type 0
 FitsTable i = SomeRow (FitsRow i) ROWS
@@ -53,9 +49,80 @@ FitsTable i = SomeRow (FitsRow i) ROWS
 unfoldable pub IsGiven : ℕ → Type 0
 IsGiven w = SomeRow (GivesWord w) ROWS
 
--- the mnemonic of an operation, as bytes
+-- ---- names
+
+-- the mnemonic of an operation, as the manual writes it
 abbrev pub mnemonic_of : Op → List ℕ
-mnemonic_of op = slice_index_or (map (λ p. p.1.now) NAMES) (op_number op) []
+mnemonic_of operations.Add = codes "add"
+mnemonic_of operations.Sub = codes "sub"
+mnemonic_of operations.Sll = codes "sll"
+mnemonic_of operations.Slt = codes "slt"
+mnemonic_of operations.Sltu = codes "sltu"
+mnemonic_of operations.Xor = codes "xor"
+mnemonic_of operations.Srl = codes "srl"
+mnemonic_of operations.Sra = codes "sra"
+mnemonic_of operations.Or = codes "or"
+mnemonic_of operations.And = codes "and"
+mnemonic_of operations.Mul = codes "mul"
+mnemonic_of operations.Mulh = codes "mulh"
+mnemonic_of operations.Mulhsu = codes "mulhsu"
+mnemonic_of operations.Mulhu = codes "mulhu"
+mnemonic_of operations.Div = codes "div"
+mnemonic_of operations.Divu = codes "divu"
+mnemonic_of operations.Rem = codes "rem"
+mnemonic_of operations.Remu = codes "remu"
+mnemonic_of operations.Addw = codes "addw"
+mnemonic_of operations.Subw = codes "subw"
+mnemonic_of operations.Sllw = codes "sllw"
+mnemonic_of operations.Srlw = codes "srlw"
+mnemonic_of operations.Sraw = codes "sraw"
+mnemonic_of operations.Mulw = codes "mulw"
+mnemonic_of operations.Divw = codes "divw"
+mnemonic_of operations.Divuw = codes "divuw"
+mnemonic_of operations.Remw = codes "remw"
+mnemonic_of operations.Remuw = codes "remuw"
+mnemonic_of operations.Addi = codes "addi"
+mnemonic_of operations.Slti = codes "slti"
+mnemonic_of operations.Sltiu = codes "sltiu"
+mnemonic_of operations.Xori = codes "xori"
+mnemonic_of operations.Ori = codes "ori"
+mnemonic_of operations.Andi = codes "andi"
+mnemonic_of operations.Slli = codes "slli"
+mnemonic_of operations.Srli = codes "srli"
+mnemonic_of operations.Srai = codes "srai"
+mnemonic_of operations.Addiw = codes "addiw"
+mnemonic_of operations.Slliw = codes "slliw"
+mnemonic_of operations.Srliw = codes "srliw"
+mnemonic_of operations.Sraiw = codes "sraiw"
+mnemonic_of operations.Lb = codes "lb"
+mnemonic_of operations.Lh = codes "lh"
+mnemonic_of operations.Lw = codes "lw"
+mnemonic_of operations.Ld = codes "ld"
+mnemonic_of operations.Lbu = codes "lbu"
+mnemonic_of operations.Lhu = codes "lhu"
+mnemonic_of operations.Lwu = codes "lwu"
+mnemonic_of operations.Sb = codes "sb"
+mnemonic_of operations.Sh = codes "sh"
+mnemonic_of operations.Sw = codes "sw"
+mnemonic_of operations.Sd = codes "sd"
+mnemonic_of operations.Beq = codes "beq"
+mnemonic_of operations.Bne = codes "bne"
+mnemonic_of operations.Blt = codes "blt"
+mnemonic_of operations.Bge = codes "bge"
+mnemonic_of operations.Bltu = codes "bltu"
+mnemonic_of operations.Bgeu = codes "bgeu"
+mnemonic_of operations.Jal = codes "jal"
+mnemonic_of operations.Jalr = codes "jalr"
+mnemonic_of operations.Lui = codes "lui"
+mnemonic_of operations.Ebreak = codes "ebreak"
+
+-- all operations, in the order of their rows
+abbrev pub ops : List Op
+ops = operations.Add ∷ operations.Sub ∷ operations.Sll ∷ operations.Slt ∷ operations.Sltu ∷ operations.Xor ∷ operations.Srl ∷ operations.Sra ∷ operations.Or ∷ operations.And ∷ operations.Mul ∷ operations.Mulh ∷ operations.Mulhsu ∷ operations.Mulhu ∷ operations.Div ∷ operations.Divu ∷ operations.Rem ∷ operations.Remu ∷ operations.Addw ∷ operations.Subw ∷ operations.Sllw ∷ operations.Srlw ∷ operations.Sraw ∷ operations.Mulw ∷ operations.Divw ∷ operations.Divuw ∷ operations.Remw ∷ operations.Remuw ∷ operations.Addi ∷ operations.Slti ∷ operations.Sltiu ∷ operations.Xori ∷ operations.Ori ∷ operations.Andi ∷ operations.Slli ∷ operations.Srli ∷ operations.Srai ∷ operations.Addiw ∷ operations.Slliw ∷ operations.Srliw ∷ operations.Sraiw ∷ operations.Lb ∷ operations.Lh ∷ operations.Lw ∷ operations.Ld ∷ operations.Lbu ∷ operations.Lhu ∷ operations.Lwu ∷ operations.Sb ∷ operations.Sh ∷ operations.Sw ∷ operations.Sd ∷ operations.Beq ∷ operations.Bne ∷ operations.Blt ∷ operations.Bge ∷ operations.Bltu ∷ operations.Bgeu ∷ operations.Jal ∷ operations.Jalr ∷ operations.Lui ∷ operations.Ebreak ∷ []
+
+-- each operation with its mnemonic, in the order of the rows
+abbrev pub mnemonics : List (Op × List ℕ)
+mnemonics = map (λ op. (op, mnemonic_of op)) ops
 
 -- ---- rows that are apart
 

@@ -1,5 +1,4 @@
-//! Words and instructions, both ways. `decode` looks at the opcode first and then at the rows of that opcode alone: at
-//! most 18 of the 62, and for loads, stores, branches and jumps at most 7. `encode` goes to its row at once.
+//! Words and instructions, both ways. `decode` tries the rows in their order, and `encode` goes to its row at once.
 ghost use Rattle.std.specs.Prelude.{◌≡◌, ◌↔◌, Some, IfSome, IsSome, IsTrue, ℕ};
 ghost use Rattle.st_rv.specs.declared.ins.Ins.{Ins};
 ghost use Rattle.st_rv.specs.Op.{op_number};
@@ -8,13 +7,13 @@ ghost use Rattle.st_rv.specs.Rows.{IsRow, FitsTable, IsGiven, AreApart, Encoded,
 use crate::decoding::fields_of;
 use crate::encoding::encode_form;
 use crate::ins::{Ins, Op};
-use crate::rows::{Form, ROWS, Row, check_rows, each_row, first_row};
+use crate::rows::{Form, ROWS, check_rows, each_row, first_row};
 
 fn encoded(i: Ins) -> Option<u32>
     ensures { Encoded (row_at ROWS (op_number i.op)) i result }
 {
     macro_rules! arms {
-        ($(($op:ident, $name:literal, $form:ident, $mask:literal, $bits:literal))*) => {
+        ($(($op:ident, $kind:ident, $name:literal, $form:ident, $mask:literal, $bits:literal))*) => {
             match i.op {
                 $(Op::$op => encode_form(Form::$form, $bits, i),)*
             }
@@ -33,30 +32,10 @@ pub fn encode(i: Ins) -> Option<u32>
     encoded(i)
 }
 
-/// The row that gives the word.
-fn row_of(w: u32) -> Option<Row>
-    ensures { result ≡ first_in ROWS w }
-{
-    match w & 127 {
-        0x33 => first_row(&ROWS[0..18], w),
-        0x3b => first_row(&ROWS[18..28], w),
-        0x13 => first_row(&ROWS[28..37], w),
-        0x1b => first_row(&ROWS[37..41], w),
-        0x03 => first_row(&ROWS[41..48], w),
-        0x23 => first_row(&ROWS[48..52], w),
-        0x63 => first_row(&ROWS[52..58], w),
-        0x6f => first_row(&ROWS[58..59], w),
-        0x67 => first_row(&ROWS[59..60], w),
-        0x37 => first_row(&ROWS[60..61], w),
-        0x73 => first_row(&ROWS[61..62], w),
-        _ => None,
-    }
-}
-
 fn decoded(w: u32) -> Option<Ins>
     ensures { Decoded (first_in ROWS w) result w }
 {
-    let row = row_of(w)?;
+    let row = first_row(&ROWS, w)?;
     Some(fields_of(row.op, row.form, w))
 }
 
@@ -67,22 +46,6 @@ pub fn decode(w: u32) -> Option<Ins>
     ensures given { IsSome result ↔ IsGiven w }
 {
     decoded(w)
-}
-
-/// An instruction that has a word is what its word decodes to.
-pub fn decode_encoded(i: Ins) -> Option<Ins>
-    ensures same { IfSome result (λ j. j ≡ i) }
-    ensures some { IsSome result ↔ FitsTable i }
-{
-    decode(encode(i)?)
-}
-
-/// A word that the table gives is that of the instruction that it decodes to.
-pub fn encode_decoded(w: u32) -> Option<u32>
-    ensures same { IfSome result (λ v. v ≡ w) }
-    ensures some { IsSome result ↔ IsGiven w }
-{
-    encode(decode(w)?)
 }
 
 /// No two rows of the table give a common word.

@@ -1,6 +1,7 @@
 //! Instructions of RV64I and M as data.
 ghost use Rattle.std.specs.Prelude.{◌≡◌};
 
+use crate::rows::each_row;
 use st_base::reg::Reg;
 
 /// An operation, one for each row of the instruction table; its name is the mnemonic.
@@ -99,70 +100,14 @@ impl Op {
     pub fn kind(self) -> OpKind
         ensures { result ≡ kind_of self }
     {
-        match self {
-            Op::Add => OpKind::Register,
-            Op::Sub => OpKind::Register,
-            Op::Sll => OpKind::Register,
-            Op::Slt => OpKind::Register,
-            Op::Sltu => OpKind::Register,
-            Op::Xor => OpKind::Register,
-            Op::Srl => OpKind::Register,
-            Op::Sra => OpKind::Register,
-            Op::Or => OpKind::Register,
-            Op::And => OpKind::Register,
-            Op::Mul => OpKind::Register,
-            Op::Mulh => OpKind::Register,
-            Op::Mulhsu => OpKind::Register,
-            Op::Mulhu => OpKind::Register,
-            Op::Div => OpKind::Register,
-            Op::Divu => OpKind::Register,
-            Op::Rem => OpKind::Register,
-            Op::Remu => OpKind::Register,
-            Op::Addw => OpKind::Register,
-            Op::Subw => OpKind::Register,
-            Op::Sllw => OpKind::Register,
-            Op::Srlw => OpKind::Register,
-            Op::Sraw => OpKind::Register,
-            Op::Mulw => OpKind::Register,
-            Op::Divw => OpKind::Register,
-            Op::Divuw => OpKind::Register,
-            Op::Remw => OpKind::Register,
-            Op::Remuw => OpKind::Register,
-            Op::Addi => OpKind::Immediate,
-            Op::Slti => OpKind::Immediate,
-            Op::Sltiu => OpKind::Immediate,
-            Op::Xori => OpKind::Immediate,
-            Op::Ori => OpKind::Immediate,
-            Op::Andi => OpKind::Immediate,
-            Op::Slli => OpKind::Immediate,
-            Op::Srli => OpKind::Immediate,
-            Op::Srai => OpKind::Immediate,
-            Op::Addiw => OpKind::Immediate,
-            Op::Slliw => OpKind::Immediate,
-            Op::Srliw => OpKind::Immediate,
-            Op::Sraiw => OpKind::Immediate,
-            Op::Lui => OpKind::Upper,
-            Op::Lb => OpKind::Load,
-            Op::Lh => OpKind::Load,
-            Op::Lw => OpKind::Load,
-            Op::Ld => OpKind::Load,
-            Op::Lbu => OpKind::Load,
-            Op::Lhu => OpKind::Load,
-            Op::Lwu => OpKind::Load,
-            Op::Sb => OpKind::Store,
-            Op::Sh => OpKind::Store,
-            Op::Sw => OpKind::Store,
-            Op::Sd => OpKind::Store,
-            Op::Beq => OpKind::Branch,
-            Op::Bne => OpKind::Branch,
-            Op::Blt => OpKind::Branch,
-            Op::Bge => OpKind::Branch,
-            Op::Bltu => OpKind::Branch,
-            Op::Bgeu => OpKind::Branch,
-            Op::Jal => OpKind::Jump,
-            Op::Jalr => OpKind::Jump,
-            Op::Ebreak => OpKind::Break,
+        macro_rules! arms {
+            ($(($op:ident, $kind:ident, $name:literal, $form:ident, $mask:literal, $bits:literal))*) => {
+                match self {
+                    $(Op::$op => OpKind::$kind,)*
+                }
+            };
         }
+        each_row!(arms)
     }
 }
 

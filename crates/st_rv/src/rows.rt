@@ -1,6 +1,6 @@
 //! The instruction table of RV64I and M: one row for each operation, from one list.
 ghost use Rattle.std.specs.Prelude.{◌≡◌, ◌↔◌, IsTrue, map};
-ghost use Rattle.st_rv.specs.Rows.{Clash, IsApartFrom, AreApart, first_in, mnemonic_of};
+ghost use Rattle.st_rv.specs.Rows.{Clash, IsApartFrom, AreApart, first_in, mnemonic_of, mnemonics, ops};
 
 use crate::ins::Op;
 
@@ -28,73 +28,73 @@ pub struct Row {
     pub bits: u32,
 }
 
-/// Calls a macro with the whole list: operation, mnemonic, form, mask and bits of each row, in the order of the
-/// operations. Everything that goes row by row is expanded from it.
+/// Calls a macro with the whole list: operation, kind, mnemonic, form, mask and bits of each row, in the order of the
+/// operations. Everything that goes row by row is expanded from it: the table, the names, kinds and encoding.
 macro_rules! each_row {
     ($then:ident) => {
         $then! {
-            (Add, "add", R, 0xfe00707f, 0x00000033)
-            (Sub, "sub", R, 0xfe00707f, 0x40000033)
-            (Sll, "sll", R, 0xfe00707f, 0x00001033)
-            (Slt, "slt", R, 0xfe00707f, 0x00002033)
-            (Sltu, "sltu", R, 0xfe00707f, 0x00003033)
-            (Xor, "xor", R, 0xfe00707f, 0x00004033)
-            (Srl, "srl", R, 0xfe00707f, 0x00005033)
-            (Sra, "sra", R, 0xfe00707f, 0x40005033)
-            (Or, "or", R, 0xfe00707f, 0x00006033)
-            (And, "and", R, 0xfe00707f, 0x00007033)
-            (Mul, "mul", R, 0xfe00707f, 0x02000033)
-            (Mulh, "mulh", R, 0xfe00707f, 0x02001033)
-            (Mulhsu, "mulhsu", R, 0xfe00707f, 0x02002033)
-            (Mulhu, "mulhu", R, 0xfe00707f, 0x02003033)
-            (Div, "div", R, 0xfe00707f, 0x02004033)
-            (Divu, "divu", R, 0xfe00707f, 0x02005033)
-            (Rem, "rem", R, 0xfe00707f, 0x02006033)
-            (Remu, "remu", R, 0xfe00707f, 0x02007033)
-            (Addw, "addw", R, 0xfe00707f, 0x0000003b)
-            (Subw, "subw", R, 0xfe00707f, 0x4000003b)
-            (Sllw, "sllw", R, 0xfe00707f, 0x0000103b)
-            (Srlw, "srlw", R, 0xfe00707f, 0x0000503b)
-            (Sraw, "sraw", R, 0xfe00707f, 0x4000503b)
-            (Mulw, "mulw", R, 0xfe00707f, 0x0200003b)
-            (Divw, "divw", R, 0xfe00707f, 0x0200403b)
-            (Divuw, "divuw", R, 0xfe00707f, 0x0200503b)
-            (Remw, "remw", R, 0xfe00707f, 0x0200603b)
-            (Remuw, "remuw", R, 0xfe00707f, 0x0200703b)
-            (Addi, "addi", I, 0x0000707f, 0x00000013)
-            (Slti, "slti", I, 0x0000707f, 0x00002013)
-            (Sltiu, "sltiu", I, 0x0000707f, 0x00003013)
-            (Xori, "xori", I, 0x0000707f, 0x00004013)
-            (Ori, "ori", I, 0x0000707f, 0x00006013)
-            (Andi, "andi", I, 0x0000707f, 0x00007013)
-            (Slli, "slli", Shift6, 0xfc00707f, 0x00001013)
-            (Srli, "srli", Shift6, 0xfc00707f, 0x00005013)
-            (Srai, "srai", Shift6, 0xfc00707f, 0x40005013)
-            (Addiw, "addiw", I, 0x0000707f, 0x0000001b)
-            (Slliw, "slliw", Shift5, 0xfe00707f, 0x0000101b)
-            (Srliw, "srliw", Shift5, 0xfe00707f, 0x0000501b)
-            (Sraiw, "sraiw", Shift5, 0xfe00707f, 0x4000501b)
-            (Lb, "lb", I, 0x0000707f, 0x00000003)
-            (Lh, "lh", I, 0x0000707f, 0x00001003)
-            (Lw, "lw", I, 0x0000707f, 0x00002003)
-            (Ld, "ld", I, 0x0000707f, 0x00003003)
-            (Lbu, "lbu", I, 0x0000707f, 0x00004003)
-            (Lhu, "lhu", I, 0x0000707f, 0x00005003)
-            (Lwu, "lwu", I, 0x0000707f, 0x00006003)
-            (Sb, "sb", S, 0x0000707f, 0x00000023)
-            (Sh, "sh", S, 0x0000707f, 0x00001023)
-            (Sw, "sw", S, 0x0000707f, 0x00002023)
-            (Sd, "sd", S, 0x0000707f, 0x00003023)
-            (Beq, "beq", B, 0x0000707f, 0x00000063)
-            (Bne, "bne", B, 0x0000707f, 0x00001063)
-            (Blt, "blt", B, 0x0000707f, 0x00004063)
-            (Bge, "bge", B, 0x0000707f, 0x00005063)
-            (Bltu, "bltu", B, 0x0000707f, 0x00006063)
-            (Bgeu, "bgeu", B, 0x0000707f, 0x00007063)
-            (Jal, "jal", J, 0x0000007f, 0x0000006f)
-            (Jalr, "jalr", I, 0x0000707f, 0x00000067)
-            (Lui, "lui", U, 0x0000007f, 0x00000037)
-            (Ebreak, "ebreak", Fixed, 0xffffffff, 0x00100073)
+            (Add, Register, "add", R, 0xfe00707f, 0x00000033)
+            (Sub, Register, "sub", R, 0xfe00707f, 0x40000033)
+            (Sll, Register, "sll", R, 0xfe00707f, 0x00001033)
+            (Slt, Register, "slt", R, 0xfe00707f, 0x00002033)
+            (Sltu, Register, "sltu", R, 0xfe00707f, 0x00003033)
+            (Xor, Register, "xor", R, 0xfe00707f, 0x00004033)
+            (Srl, Register, "srl", R, 0xfe00707f, 0x00005033)
+            (Sra, Register, "sra", R, 0xfe00707f, 0x40005033)
+            (Or, Register, "or", R, 0xfe00707f, 0x00006033)
+            (And, Register, "and", R, 0xfe00707f, 0x00007033)
+            (Mul, Register, "mul", R, 0xfe00707f, 0x02000033)
+            (Mulh, Register, "mulh", R, 0xfe00707f, 0x02001033)
+            (Mulhsu, Register, "mulhsu", R, 0xfe00707f, 0x02002033)
+            (Mulhu, Register, "mulhu", R, 0xfe00707f, 0x02003033)
+            (Div, Register, "div", R, 0xfe00707f, 0x02004033)
+            (Divu, Register, "divu", R, 0xfe00707f, 0x02005033)
+            (Rem, Register, "rem", R, 0xfe00707f, 0x02006033)
+            (Remu, Register, "remu", R, 0xfe00707f, 0x02007033)
+            (Addw, Register, "addw", R, 0xfe00707f, 0x0000003b)
+            (Subw, Register, "subw", R, 0xfe00707f, 0x4000003b)
+            (Sllw, Register, "sllw", R, 0xfe00707f, 0x0000103b)
+            (Srlw, Register, "srlw", R, 0xfe00707f, 0x0000503b)
+            (Sraw, Register, "sraw", R, 0xfe00707f, 0x4000503b)
+            (Mulw, Register, "mulw", R, 0xfe00707f, 0x0200003b)
+            (Divw, Register, "divw", R, 0xfe00707f, 0x0200403b)
+            (Divuw, Register, "divuw", R, 0xfe00707f, 0x0200503b)
+            (Remw, Register, "remw", R, 0xfe00707f, 0x0200603b)
+            (Remuw, Register, "remuw", R, 0xfe00707f, 0x0200703b)
+            (Addi, Immediate, "addi", I, 0x0000707f, 0x00000013)
+            (Slti, Immediate, "slti", I, 0x0000707f, 0x00002013)
+            (Sltiu, Immediate, "sltiu", I, 0x0000707f, 0x00003013)
+            (Xori, Immediate, "xori", I, 0x0000707f, 0x00004013)
+            (Ori, Immediate, "ori", I, 0x0000707f, 0x00006013)
+            (Andi, Immediate, "andi", I, 0x0000707f, 0x00007013)
+            (Slli, Immediate, "slli", Shift6, 0xfc00707f, 0x00001013)
+            (Srli, Immediate, "srli", Shift6, 0xfc00707f, 0x00005013)
+            (Srai, Immediate, "srai", Shift6, 0xfc00707f, 0x40005013)
+            (Addiw, Immediate, "addiw", I, 0x0000707f, 0x0000001b)
+            (Slliw, Immediate, "slliw", Shift5, 0xfe00707f, 0x0000101b)
+            (Srliw, Immediate, "srliw", Shift5, 0xfe00707f, 0x0000501b)
+            (Sraiw, Immediate, "sraiw", Shift5, 0xfe00707f, 0x4000501b)
+            (Lb, Load, "lb", I, 0x0000707f, 0x00000003)
+            (Lh, Load, "lh", I, 0x0000707f, 0x00001003)
+            (Lw, Load, "lw", I, 0x0000707f, 0x00002003)
+            (Ld, Load, "ld", I, 0x0000707f, 0x00003003)
+            (Lbu, Load, "lbu", I, 0x0000707f, 0x00004003)
+            (Lhu, Load, "lhu", I, 0x0000707f, 0x00005003)
+            (Lwu, Load, "lwu", I, 0x0000707f, 0x00006003)
+            (Sb, Store, "sb", S, 0x0000707f, 0x00000023)
+            (Sh, Store, "sh", S, 0x0000707f, 0x00001023)
+            (Sw, Store, "sw", S, 0x0000707f, 0x00002023)
+            (Sd, Store, "sd", S, 0x0000707f, 0x00003023)
+            (Beq, Branch, "beq", B, 0x0000707f, 0x00000063)
+            (Bne, Branch, "bne", B, 0x0000707f, 0x00001063)
+            (Blt, Branch, "blt", B, 0x0000707f, 0x00004063)
+            (Bge, Branch, "bge", B, 0x0000707f, 0x00005063)
+            (Bltu, Branch, "bltu", B, 0x0000707f, 0x00006063)
+            (Bgeu, Branch, "bgeu", B, 0x0000707f, 0x00007063)
+            (Jal, Jump, "jal", J, 0x0000007f, 0x0000006f)
+            (Jalr, Jump, "jalr", I, 0x0000707f, 0x00000067)
+            (Lui, Upper, "lui", U, 0x0000007f, 0x00000037)
+            (Ebreak, Break, "ebreak", Fixed, 0xffffffff, 0x00100073)
         }
     };
 }
@@ -102,13 +102,13 @@ macro_rules! each_row {
 pub(crate) use each_row;
 
 macro_rules! table {
-    ($(($op:ident, $name:literal, $form:ident, $mask:literal, $bits:literal))*) => {
+    ($(($op:ident, $kind:ident, $name:literal, $form:ident, $mask:literal, $bits:literal))*) => {
         [$(Row { op: Op::$op, form: Form::$form, mask: $mask, bits: $bits }),*]
     };
 }
 
 macro_rules! names {
-    ($(($op:ident, $name:literal, $form:ident, $mask:literal, $bits:literal))*) => {
+    ($(($op:ident, $kind:ident, $name:literal, $form:ident, $mask:literal, $bits:literal))*) => {
         [$((Op::$op, $name)),*]
     };
 }
@@ -120,12 +120,12 @@ pub const ROWS: [Row; 62] = each_row!(table);
 /// holds no text in a struct; both come from the same list.
 pub const NAMES: [(Op, &str); 62] = each_row!(names);
 
-/// The mnemonic of an operation, as `NAMES` has it.
+/// The mnemonic of an operation.
 pub fn mnemonic(op: Op) -> &'static str
     ensures { result.now ≡ mnemonic_of op }
 {
     macro_rules! arms {
-        ($(($op:ident, $name:literal, $form:ident, $mask:literal, $bits:literal))*) => {
+        ($(($op:ident, $kind:ident, $name:literal, $form:ident, $mask:literal, $bits:literal))*) => {
             match op {
                 $(Op::$op => $name,)*
             }
@@ -134,9 +134,10 @@ pub fn mnemonic(op: Op) -> &'static str
     each_row!(arms)
 }
 
-/// The names stand in the order of the rows.
+/// The rows stand in the order of the operations, and so do the names, each beside its operation.
 pub fn names_in_order()
-    ensures { map (λ p. p.0) NAMES ≡ map (λ r. r.op) ROWS }
+    ensures rows { map (λ r. r.op) ROWS ≡ ops }
+    ensures names { map (λ p. (p.0, p.1.now)) NAMES ≡ mnemonics }
 {}
 
 /// The first row that gives the word.

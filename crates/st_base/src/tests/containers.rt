@@ -12,8 +12,9 @@ use std::test::Fail;
 fn lists_take_what_is_put(rt: HostRuntime) -> Result<(), Fail> {
     let mut cells: Cells<u8> = Cells::undefined(rt.alloc(), 4)?;
     slots::store(&mut cells, 1, 2, 0x1234);
-    assert_eq!(rt; slots::load(&cells, 1, 2), Some(0x1234));
-    assert_eq!(rt; slots::load(&cells, 0, 2), None);
+    for (at, want) in [None, Some(0x34), Some(0x12), None].iter().enumerate() {
+        assert_eq!(rt; cells.get(at).copied(), *want);
+    }
 
     let mut stack = Stack::new(rt.alloc());
     stack.push(1u8)?;

@@ -1,5 +1,4 @@
 use super::*;
-use crate::rows::NAMES;
 use st_base::reg::Reg;
 use std::process::Abort;
 
@@ -86,6 +85,26 @@ const WORDS: [(Op, [Reg; 3], i64, u32); 62] = [
     (Op::Ebreak, [Reg::Zero, Reg::Zero, Reg::Zero], 0, 0x00100073),
 ];
 
+/// Words of a frame's making and freeing.
+const FRAME_WORDS: [(Op, [Reg; 3], i64, u32); 5] = [
+    (Op::Addi, [Reg::Sp, Reg::Sp, NONE], -16, 0xff010113),
+    (Op::Sd, [NONE, Reg::Sp, Reg::Ra], 8, 0x00113423),
+    (Op::Ld, [Reg::Ra, Reg::Tp, NONE], -8, 0xff823083),
+    (Op::Bgeu, [NONE, Reg::Sp, Reg::Tp], 16, 0x00417863),
+    (Op::Jalr, [NONE, Reg::Ra, NONE], 0, 0x00008067),
+];
+
+/// Words of no row: slli with bit 26 set, slliw with bit 25 set, and jalr with another funct3.
+const NO_WORDS: [u32; 4] = [0, 0x04051513, 0x0205151b, 0x00009067];
+
+/// Instructions without a word.
+const NO_INSTRUCTIONS: [(Op, [Reg; 3], i64); 4] = [
+    (Op::Addi, [Reg::A0, Reg::A0, NONE], 2048),
+    (Op::Slliw, [Reg::A0, Reg::A0, NONE], 32),
+    (Op::Beq, [NONE, Reg::A0, Reg::A1], 3),
+    (Op::Addi, [Reg::A0, Reg::A0, Reg::A1], 0),
+];
+
 fn agree(rt: &impl Abort, words: &[(Op, [Reg; 3], i64, u32)]) {
     for (op, [rd, rs1, rs2], imm, word) in words {
         let i = instruction(*op, *rd, *rs1, *rs2, *imm);
@@ -95,72 +114,15 @@ fn agree(rt: &impl Abort, words: &[(Op, [Reg; 3], i64, u32)]) {
 }
 
 #[test]
-fn each_row_agrees_with_another_assembler(rt: HostRuntime) {
+fn words_agree_with_another_assembler(rt: HostRuntime) {
     agree(&rt, &WORDS);
-}
-
-#[test]
-fn words_of_a_frame_are_the_listed_ones(rt: HostRuntime) {
-    assert_eq!(rt;
-        encode(instruction(Op::Addi, Reg::Sp, Reg::Sp, NONE, -16)),
-        Some(0xff010113)
-    );
-    assert_eq!(rt;
-        encode(instruction(Op::Sd, NONE, Reg::Sp, Reg::Ra, 8)),
-        Some(0x00113423)
-    );
-    assert_eq!(rt;
-        encode(instruction(Op::Ld, Reg::Ra, Reg::Tp, NONE, -8)),
-        Some(0xff823083)
-    );
-    assert_eq!(rt;
-        encode(instruction(Op::Bgeu, NONE, Reg::Sp, Reg::Tp, 16)),
-        Some(0x00417863)
-    );
-    assert_eq!(rt;
-        encode(instruction(Op::Jalr, NONE, Reg::Ra, NONE, 0)),
-        Some(0x00008067)
-    );
-    assert_eq!(rt;
-        encode(instruction(Op::Ebreak, NONE, NONE, NONE, 0)),
-        Some(0x00100073)
-    );
-}
-
-#[test]
-fn what_no_row_gives_is_none(rt: HostRuntime) {
-    assert_eq!(rt; decode(0), None);
-    // slli with bit 26 set, slliw with bit 25 set, and jalr with another funct3
-    assert_eq!(rt; decode(0x04051513), None);
-    assert_eq!(rt; decode(0x0205151b), None);
-    assert_eq!(rt; decode(0x00009067), None);
-    assert_eq!(rt;
-        encode(instruction(Op::Addi, Reg::A0, Reg::A0, NONE, 2048)),
-        None
-    );
-    assert_eq!(rt;
-        encode(instruction(Op::Slliw, Reg::A0, Reg::A0, NONE, 32)),
-        None
-    );
-    assert_eq!(rt;
-        encode(instruction(Op::Beq, NONE, Reg::A0, Reg::A1, 3)),
-        None
-    );
-    assert_eq!(rt;
-        encode(instruction(Op::Addi, Reg::A0, Reg::A0, Reg::A1, 0)),
-        None
-    );
-}
-
-#[test]
-fn the_table_is_apart_and_a_row_twice_is_not(rt: HostRuntime) {
+    agree(&rt, &FRAME_WORDS);
+    for word in NO_WORDS {
+        assert_eq!(rt; decode(word), None);
+    }
+    for (op, [rd, rs1, rs2], imm) in NO_INSTRUCTIONS {
+        assert_eq!(rt; encode(instruction(op, rd, rs1, rs2, imm)), None);
+    }
     assert!(rt; check_table());
     assert!(rt; !check_rows(&[ROWS[0], ROWS[1], ROWS[0]]));
-}
-
-#[test]
-fn names_stand_beside_their_rows(rt: HostRuntime) {
-    assert_eq!(rt; NAMES[0], (Op::Add, "add"));
-    assert_eq!(rt; NAMES[28], (Op::Addi, "addi"));
-    assert_eq!(rt; NAMES[61], (Op::Ebreak, "ebreak"));
 }
