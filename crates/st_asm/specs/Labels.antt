@@ -3,9 +3,9 @@
 use Rattle.std.specs.Prelude.{ℕ, ◌+◌, Bool, true, false, not, ◌&&◌, ◌||◌, ◌==◌, List, [], ◌∷◌, ◌++◌, Option, Some, None, if◌then◌else◌, map, is_some}
 use Rattle.std.specs.Str.{bytes_eq}
 use Rattle.st_base.specs.declared.line.Line.{Line}
+use Rattle.st_base.specs.Entry.{entry_rows}
 use Rattle.st_line.specs.Operands.{named_in}
 use Rattle.st_line.specs.Statement.{line_label}
-use Rattle.st_asm.specs.declared.entries.TheConstants.{ENTRIES}
 
 -- ---- lines
 
@@ -48,11 +48,11 @@ is_named name (n ∷ ns) = bytes_eq n name || is_named name ns
 
 -- the name of an entry of the runtime
 abbrev pub is_entry : List ℕ → Bool
-is_entry name = is_named name (map (λ p. p.1.now) ENTRIES)
+is_entry name = is_named name (map (λ row. row.1) entry_rows)
 
 -- the address of an entry
 abbrev pub entry_at : List ℕ → Option ℕ
-entry_at name = named_in (map (λ p. (p.0, p.1.now)) ENTRIES) name
+entry_at name = named_in entry_rows name
 
 -- ---- labels
 

@@ -3,18 +3,7 @@ ghost use Rattle.std.specs.Prelude.{◌≡◌, map, is_some};
 ghost use Rattle.st_line.specs.Operands.{named_in};
 ghost use Rattle.st_asm.specs.Labels.{entry_at, is_entry, is_local, scope_of};
 
-/// The names of the runtime's entries, each with its address. They are no labels of a program.
-pub const ENTRIES: [(u32, &str); 9] = [
-    (0x10, "st_fork_in"),
-    (0x20, "st_fork_out"),
-    (0x30, "st_end"),
-    (0x40, "st_touch"),
-    (0x50, "st_counter"),
-    (0x60, "st_done"),
-    (0x70, "st_join"),
-    (0x80, "st_poll"),
-    (0x90, "st_putc"),
-];
+use st_base::entry::ENTRIES;
 
 fn address_in(table: &[(u32, &str)], name: &[u8]) -> Option<u32>
     ensures { result ≡ named_in (map (λ p. (p.0, p.1.now)) table.now) name.now }
@@ -28,6 +17,7 @@ fn address_in(table: &[(u32, &str)], name: &[u8]) -> Option<u32>
 }
 
 /// The address of the entry of this name, in bytes; `None` where no entry has it.
+#[tactic(auto, using(crate::proofs::EntryNames::entries_named))]
 pub fn entry_at(name: &[u8]) -> Option<u32>
     ensures { result ≡ entry_at name.now }
 {

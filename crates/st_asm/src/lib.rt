@@ -5,7 +5,6 @@
 #![tactic(auto)]
 
 mod assembly;
-mod copies;
 mod entries;
 mod error;
 mod labels;
@@ -18,8 +17,7 @@ mod tests;
 mod unit;
 mod whole;
 
-pub use copies::{copy_ins, copy_target};
-pub use entries::{ENTRIES, entry_at, is_entry, is_local};
+pub use entries::{entry_at, is_entry, is_local};
 pub use error::AsmError;
 pub use reader::read_unit;
 pub use st_line::{AsmFault, AsmKind, SourceIns, Target, Token, tokens};

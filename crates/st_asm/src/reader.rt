@@ -12,12 +12,10 @@ use crate::lines::{Located, lines_of};
 use crate::places::{functions_in, places_of};
 use crate::whole::Unit;
 use st_base::line::Line;
+use st_base::map::MOST_TEXT;
 use st_base::path::Bytes;
 use st_line::{AsmFault, AsmKind, LineError, line_label, read_line};
 use std::alloc::{AllocError, Global};
-
-/// The most bytes of all texts.
-const MOST_TEXT: usize = 1_048_576;
 
 /// The file in which the byte past the most bytes stands, counted from 1.
 fn long_file(texts: &[Vec<u8>]) -> Option<u32>

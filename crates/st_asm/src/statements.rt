@@ -7,13 +7,9 @@ ghost use Rattle.st_asm.specs.Reading.{seen, IsAligned, with_arguments, with_slo
 use crate::assembly::Assembled;
 use crate::unit::SourceLine;
 use st_base::line::Line;
+use st_base::map::{MOST_DATA, MOST_INSTRUCTIONS};
 use st_line::{Part, SourceIns, Statement};
 use std::alloc::AllocError;
-
-/// The most instruction lines of a unit.
-const MOST_INSTRUCTIONS: u32 = 65_536;
-/// The most bytes of read-only data of a unit.
-const MOST_BYTES: usize = 1_048_576;
 
 /// How many zeros bring a length to a multiple of 2^power.
 fn padding(power: u32, length: usize) -> usize
@@ -116,7 +112,7 @@ impl Assembled<'_> {
         ensures { result ≡ nat_le (length self.now.rodata.items + added_bytes statement.now self.now.standing.in_data (length self.now.rodata.items)) 1048576 }
     {
         added_bytes(statement, self.standing.in_data, self.rodata.len())
-            <= MOST_BYTES - self.rodata.len()
+            <= MOST_DATA - self.rodata.len()
     }
 
     /// Adds an instruction line, or a line `.st_fork`.

@@ -36,7 +36,7 @@ fn written(alloc: Global, unit: &Unit) -> Result<String, AllocError> {
             function.ints, function.handles, function.slots, function.line
         )?;
         text.push_str(head.as_str())?;
-        for item in function.items() {
+        for item in function.items.as_slice() {
             let line = format!(in alloc; "{} {} {:?}\n", item.line.line, item.labelled, item.ins)?;
             text.push_str(line.as_str())?;
         }

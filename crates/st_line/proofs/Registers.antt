@@ -3,7 +3,7 @@ use Rattle.std.proofs.Common.{◌≡◌, Some, refl}
 use Rattle.st_base.specs.declared.reg.Reg.{Reg}
 use Rattle.st_base.specs.declared.reg.Reg.TheVariants as registers
 use Rattle.st_line.specs.Operands.{register_named}
-use Rattle.st_line.specs.Words.{register_name}
+use Rattle.st_line.specs.Registers.{register_name}
 
 pub register_name-read : (r : Reg) → register_named (register_name r) ≡ Some r
 register_name-read registers.Zero = refl

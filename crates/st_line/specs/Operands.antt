@@ -1,11 +1,11 @@
 -- The parts of a line: lexemes (tokens by their texts), operands, and what an operand may be: a register, an integer, a place in memory,
 -- a name, a string. An operand of wrong form is none of these, which is E4.
-use Rattle.std.specs.Prelude.{ℕ, ◌+◌, ◌*◌, ◌-◌, ℤ, pos, neg_ℤ, Bool, false, ◌&&◌, ◌||◌, ◌==◌, nat_le, List, [], ◌∷◌, Option, Some, None, if◌then◌else◌, map, option_map, slice_range}
+use Rattle.std.specs.Prelude.{ℕ, ◌+◌, ◌*◌, ◌-◌, ℤ, pos, neg_ℤ, Bool, false, ◌&&◌, ◌||◌, ◌==◌, nat_le, List, [], ◌∷◌, Option, Some, None, if◌then◌else◌, option_map, slice_range}
 use Rattle.std.specs.List.{list_all}
 use Rattle.std.specs.Str.{bytes_eq}
 use Rattle.st_base.specs.declared.reg.Reg.{Reg}
 use Rattle.st_line.specs.declared.lexer.Token.{Token}
-use Rattle.st_line.specs.declared.words.TheConstants.{REGISTERS}
+use Rattle.st_line.specs.Registers.{register_rows}
 use Rattle.st_line.specs.Tokens.{tokens_of}
 
 -- ---- lexemes
@@ -70,7 +70,7 @@ named_in [] text = None
 named_in (row ∷ rows) text = if bytes_eq row.1 text then Some row.0 else named_in rows text
 
 abbrev pub register_named : List ℕ → Option Reg
-register_named text = named_in (map (λ p. (p.0, p.1.now)) REGISTERS) text
+register_named text = named_in register_rows text
 
 abbrev pub register_of : Operand → Option Reg
 register_of (l ∷ []) = register_named l.text

@@ -1,7 +1,9 @@
 //! What a statement's first word names, and the names of registers.
 ghost use Rattle.std.specs.Prelude.{◌≡◌, map};
+ghost use Rattle.st_rv.specs.Rows.{mnemonics};
 ghost use Rattle.st_line.specs.Operands.{named_in, register_named};
-ghost use Rattle.st_line.specs.Words.{word_named, register_name, may_stand, directive_may_stand, is_inside, takes_arguments, takes_handles};
+ghost use Rattle.st_line.specs.Registers.{register_name};
+ghost use Rattle.st_line.specs.Words.{word_named, pseudo_rows, directive_rows, may_stand, directive_may_stand, is_inside, takes_arguments, takes_handles};
 
 use crate::source::{Part, Standing};
 use st_base::reg::Reg;
@@ -213,19 +215,19 @@ fn find_named<T: Copy>(table: &[(T, &str)], text: &[u8]) -> Option<T>
 }
 
 fn find_op(text: &[u8]) -> Option<Op>
-    ensures { result ≡ named_in (map (λ p. (p.0, p.1.now)) NAMES) text.now }
+    ensures { result ≡ named_in mnemonics text.now }
 {
     find_named(&NAMES, text)
 }
 
 fn find_pseudo(text: &[u8]) -> Option<Pseudo>
-    ensures { result ≡ named_in (map (λ p. (p.0, p.1.now)) PSEUDOS) text.now }
+    ensures { result ≡ named_in pseudo_rows text.now }
 {
     find_named(&PSEUDOS, text)
 }
 
 fn find_directive(text: &[u8]) -> Option<Directive>
-    ensures { result ≡ named_in (map (λ p. (p.0, p.1.now)) DIRECTIVES) text.now }
+    ensures { result ≡ named_in directive_rows text.now }
 {
     find_named(&DIRECTIVES, text)
 }
