@@ -201,6 +201,16 @@ removed_one p (q ∷ qs) d =
       | inr ne ↦ let x = ap length (removed_not p q qs ne) in let y = removed_one p qs d.1 in omega arith
     ]
 
+pub member_steps : (p : Path) (qs : List Path) → IsMember p qs → 1 ≤ steps_of p qs
+member_steps p [] m = absurd m
+member_steps p (q ∷ qs) (inl same) = let one = own_step p q qs same in omega arith
+member_steps p (q ∷ qs) (inr m) =
+    let more = member_steps p qs m in
+    elim (decide p q) [
+      | inl same ↦ let one = own_step p q qs same in omega arith
+      | inr ne ↦ let one = other_step p q qs ne in omega arith
+    ]
+
 pub distinct_within : (ws ps : List Path) → AreDistinct ws → ((p : Path) → IsMember p ws → 1 ≤ steps_of p ps) → length ws ≤ length ps
 distinct_within [] [] d all = omega arith
 distinct_within (w ∷ ws) [] d all = let x = all w (inl refl) in absurd (omega arith)

@@ -19,15 +19,17 @@ use Rattle.st_model.specs.declared.program.Program.{Program}
 use Rattle.st_model.specs.declared.ordinary.Tally.{Tally}
 use Rattle.st_model.specs.declared.ordinary.State.{State}
 use Rattle.st_model.specs.Effect.{File}
-use Rattle.st_model.specs.Heap.{Path, Heap, move, HStep, Run, IsNumbered, print}
+use Rattle.st_model.specs.Heap.{Path, Heap, HStep, Run, IsNumbered, print}
 use Rattle.st_model.specs.declared.output.Printed.{Printed}
 use Rattle.st_model.specs.Quiet.{bytes_of, counts, counted_bytes}
 use Rattle.st_model.proofs.Counted.{all_count}
 use Rattle.st_laws.specs.Sequential.{thread_of, first_kept, Below, Stands, IsAmong, AreEarly, last_print}
 use Rattle.st_laws.specs.Agreement.{IsAfter}
 use Rattle.st_laws.proofs.HeapSteps.{thread_stays, decide}
-use Rattle.st_laws.proofs.Numbering.{IsFitChild, enabled_fits, move_fits, numbered_after}
-use Rattle.st_laws.proofs.Later.{fit_grows, HasStopped, ended_stopped, no_step}
+use Rattle.st_laws.specs.Changes.{IsNew}
+use Rattle.st_laws.proofs.Numbering.{numbered_after}
+use Rattle.st_laws.proofs.ItemChanges.{step_change}
+use Rattle.st_laws.proofs.Later.{HasStopped, ended_stopped, no_step}
 use Rattle.st_laws.proofs.Placing.{le_or_less, OfChild, each_after}
 use Rattle.st_model.specs.Memory.{Data}
 
@@ -81,20 +83,21 @@ beyond_new g e f p t child none going (inr (inl x)) =
 beyond_new g e f p t child none going (inr (inr x)) =
     inr (inr (after_trans e p (p ++ t.forks ∷ []) f t.forks child.forks x (key_after p [] t.forks child.forks t.forks (omega arith))))
 
-beyond_child : (g : Heap) (e : Path) (f : ℕ) (p : Path) (t : Thread) (new : ℕ) (child : Option Thread) → IsFitChild t.forks new child → (HasStopped t.standing → ⊥) → IsBeyond g e f p t → OfChild (IsBeyond g e f) (p ++ t.forks ∷ []) child
-beyond_child g e f p t new None fit going b = tt
-beyond_child g e f p t new (Some child) fit going b = beyond_new g e f p t child fit.1 going b
+beyond_child : (g : Heap) (e : Path) (f : ℕ) (p : Path) (t : Thread) (child : Option Thread) → IsNew child → (HasStopped t.standing → ⊥) → IsBeyond g e f p t → OfChild (IsBeyond g e f) (p ++ t.forks ∷ []) child
+beyond_child g e f p t None new going b = tt
+beyond_child g e f p t (Some child) new going b = beyond_new g e f p t child new.1 going b
 
 pub beyond_step : (program : Program) (source : Data) (g : Heap) (e : Path) (f : ℕ) (h : Heap) (p : Path) (h' : Heap) → AllBeyond g e f h → HStep program source h p h' → AllBeyond g e f h'
 beyond_step program source g e f h p h' all s =
-    let fit = enabled_fits h s.thread (move program source p s.thread) s.change (move_fits program source p s.thread) s.enabled in
-    let grows = fit_grows s.thread.forks s.change.own.forks s.change.child fit in
+    let change = step_change program source h p h' s in
+    let forks = change.forks in
+    let grows : s.thread.forks ≤ s.change.own.forks = omega arith in
     let going : HasStopped s.thread.standing → ⊥ = λ x. no_step program source h p h' s.thread s.here x s in
     let b = all p s.thread s.here in
     subst (AllBeyond g e f) s.next
     (each_after (IsBeyond g e f) h p s.thread s.change
     (beyond_own g e f p s.thread s.change.own grows going b)
-    (beyond_child g e f p s.thread s.change.own.forks s.change.child fit going b)
+    (beyond_child g e f p s.thread s.change.child change.child going b)
     (λ q u ne there. all q u there))
 
 pub beyond_run : (program : Program) (source : Data) (g : Heap) (e : Path) (f : ℕ) (h : Heap) (ps : List Path) (h' : Heap) → AllBeyond g e f h → Run program source h ps h' → AllBeyond g e f h'

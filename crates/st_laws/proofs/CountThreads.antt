@@ -156,7 +156,9 @@ started_once program input None = tt
 started_once program input (Some function) = tt
 
 pub threads_are_counted : ThreadsAreCounted
-threads_are_counted program source s t ps qs out h first steps over run quiet =
+threads_are_counted program source t ps out h r steps over quiet =
+    let s = r.first in
+    let first = r.is_first in
     let stands = first_stands program source s first in
     let numbered = stands.1 in
     let x = sequence program source s t (first_heap s) ps numbered stands.0 steps in
@@ -170,7 +172,7 @@ threads_are_counted program source s t ps qs out h first steps over run quiet =
     let g' = after g e last (own own') in
     let ended : AllEnded g' = all_ended program t g last v x.2 done.1 in
     let quiet' : IsQuiet program source g' = λ p h'' y. let z = ended p y.thread y.here in no_step program source g' p h'' y.thread y.here (ended_stopped y.thread.standing z.0 z.1) y in
-    let more = quiet_reached program source (first_heap s) (ps ++ e ∷ []) qs g' h numbered (run_snoc program source (first_heap s) ps g e g' x.1 done.2.1) run quiet in
+    let more = quiet_reached program source (first_heap s) (ps ++ e ∷ []) r.steps g' h numbered (run_snoc program source (first_heap s) ps g e g' x.1 done.2.1) r.run quiet in
     let same : g' ≡ h = quiet_stays program source g' more.0 h quiet' more.1 in
     let ts = e ∷ paths t.rest.ended in
     let stays : (p : Path) → IsThread g p → IsThread g' p = λ p y. let z = step_forks program source g e p g' y.0 numbered_g y.1 done.2.1 in (z.0, z.1) in

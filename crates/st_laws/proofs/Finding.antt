@@ -1,7 +1,6 @@
 -- Each heap that a run of an accepted program reaches has an answer: has_answer. Its threads are in a list (in_run), of which the one of the least
--- key among those that stand so is found (find); and only the root can be full (full_run).
-use Rattle.std.proofs.Common.{◌≡◌, ◌≢◌, ℕ, Bool, true, false, List, [], ◌∷◌, ◌++◌, Option, Some, None, refl, sym, ap, ◌∙◌, subst, ◌⊎◌, inl, inr}
-use Rattle.std.specs.Prelude.{nat_lt}
+-- key among those that stand so is found (find).
+use Rattle.std.proofs.Common.{◌≡◌, ◌≢◌, ℕ, List, [], ◌∷◌, ◌++◌, Option, Some, None, refl, sym, ap, ◌∙◌, subst, ◌⊎◌, inl, inr}
 use Rattle.std.specs.Ordering.{nat_cmp, ordering_reverse, is_eq}
 use Rattle.std.specs.declared.cmp.Ordering.{Ordering}
 use Rattle.std.specs.declared.cmp.Ordering.TheVariants.{Less, Equal, Greater}
@@ -10,27 +9,19 @@ use Rattle.std.proofs.lemmas.Cmp.{nat_list_cmp_total}
 use Rattle.std.proofs.lemmas.Map.Text.{is_eq-slice_cmp}
 use Rattle.std.proofs.lemmas.Slice.Eq.{bytes_eq-Decides}
 use Rattle.st_base.specs.declared.line.Line.{Line}
-use Rattle.st_base.specs.declared.thread.Held.{Held}
-use Rattle.st_base.specs.declared.thread.Held.TheVariants.{Number, Future, Counter}
-use Rattle.st_base.specs.declared.thread.Activation.{Activation}
-use Rattle.st_base.specs.declared.thread.TrapKind.{TrapKind}
 use Rattle.st_base.specs.declared.thread.Standing.{Standing}
 use Rattle.st_base.specs.declared.thread.Standing.TheVariants.{Going, Ended, Trapped, Full}
 use Rattle.st_base.specs.declared.thread.Thread.{Thread}
-use Rattle.st_model.specs.declared.program.Item.{Item}
 use Rattle.st_model.specs.declared.program.Program.{Program}
-use Rattle.st_model.specs.declared.effect.Effect.{Effect}
-use Rattle.st_model.specs.declared.effect.Effect.TheVariants.{Undefined, Goes, Calls, Returns, Ends, Traps, Prints, Forks, Touches, Counts, Adds, Joins}
 use Rattle.st_model.specs.Memory.{Data}
-use Rattle.st_model.specs.Effect.{item_effect}
-use Rattle.st_model.specs.Ordinary.{item_at, is_root}
-use Rattle.st_model.specs.Heap.{Path, Heap, Change, Move, Stays, Moves, Touch, Join, move, move_standing, move_of, move_at, effect_move, printed_move, touch_move, add_move, join_move, Enabled, HStep, Run, first_heap}
+use Rattle.st_model.specs.Heap.{Path, Heap, HStep, Run, first_heap}
 use Rattle.st_model.specs.Quiet.{IsEvent, IsGoing, key_of, IsLeast, HasNone, QuietAnswer, Done, Trap, OutLimit, Deadlock, line_of, line_at, IsAnswer}
 use Rattle.st_model.specs.Limits.{IsMember}
 use Rattle.st_laws.specs.QuietEnd.{HasAnswer}
 use Rattle.st_laws.specs.Defined.{HasNext}
 use Rattle.st_laws.proofs.HeapSteps.{decide}
-use Rattle.st_laws.proofs.Placing.{OfChild, each_after, root_is}
+use Rattle.st_laws.proofs.CountBytes.{AllHaveBytes, reached_bytes}
+use Rattle.st_laws.proofs.Placing.{OfChild, each_after}
 use Rattle.st_laws.proofs.First.{alone_is}
 use Rattle.st_laws.proofs.HeapFlow.{heap_defined}
 
@@ -178,111 +169,16 @@ going_is (Ended v) g = absurd g
 going_is (Trapped kind line) g = absurd g
 going_is Full g = absurd g
 
--- ---- only the root can be full
-abbrev FullAt : Path → Standing → Type 0
-FullAt p s = s ≡ Full → p ≡ []
-
-abbrev FullChild : Option Thread → Type 0
-FullChild None = Unit {0}
-FullChild (Some child) = child.standing ≡ Going
-
-abbrev FullChange : Path → Change → Type 0
-FullChange p c = FullAt p c.own.standing × FullChild c.child
-
-abbrev FullMove : Path → Move → Type 0
-FullMove p Stays = Unit {0}
-FullMove p (Moves c) = FullChange p c
-FullMove p (Touch q f) = (v : ℕ) → FullChange p (f v)
-FullMove p (Join q n least c) = FullChange p c
-
-full_trap : (p : Path) (kind : TrapKind) (line : Line) → FullAt p (Trapped kind line)
-full_trap p kind line e = cc
-
-full_end : (p : Path) (v : ℕ) → FullAt p (Ended v)
-full_end p v e = cc
-
-full_printed : (p : Path) (root room : Bool) (byte : ℕ) (t next : Thread) (line : Line) → is_root p ≡ root → FullAt p next.standing → FullMove p (printed_move root room byte t next line)
-full_printed p true true byte t next line is f = (f, tt)
-full_printed p true false byte t next line is f = (λ e. root_is p is, tt)
-full_printed p false room byte t next line is f = (full_trap p _ line, tt)
-
-full_touch : (p : Path) (name : Held) (t next : Thread) (line : Line) → FullAt p next.standing → FullMove p (touch_move name t next line)
-full_touch p (Number n) t next line f = (full_trap p _ line, tt)
-full_touch p (Future q) t next line f = λ v. (f, tt)
-full_touch p (Counter q n) t next line f = (full_trap p _ line, tt)
-
-full_add : (p : Path) (name : Held) (t next : Thread) (line : Line) → FullAt p next.standing → FullMove p (add_move name t next line)
-full_add p (Number n) t next line f = (full_trap p _ line, tt)
-full_add p (Future q) t next line f = (full_trap p _ line, tt)
-full_add p (Counter q n) t next line f = (f, tt)
-
-full_join : (p : Path) (name : Held) (least : ℕ) (t next : Thread) (line : Line) → FullAt p next.standing → FullMove p (join_move name least t next line)
-full_join p (Number n) least t next line f = (full_trap p _ line, tt)
-full_join p (Future q) least t next line f = (full_trap p _ line, tt)
-full_join p (Counter q n) least t next line f = (f, tt)
-
-full_effect : (p : Path) (t : Thread) (older : List Activation) (line : Line) (effect : Effect) → FullAt p t.standing → FullMove p (effect_move p t older line effect)
-full_effect p t older line Undefined f = tt
-full_effect p t older line (Goes top file) f = (f, tt)
-full_effect p t older line (Calls top callee file) f = (f, tt)
-full_effect p t older line (Returns file) f = (f, tt)
-full_effect p t older line (Ends v kept) f = (full_end p v, tt)
-full_effect p t older line (Traps kind) f = (full_trap p kind line, tt)
-full_effect p t older line (Prints byte top file) f = full_printed p (is_root p) (nat_lt t.bytes 1048576) byte t _ line refl f
-full_effect p t older line (Forks top child handle passed file) f = (f, refl)
-full_effect p t older line (Touches name top file) f = full_touch p name t _ line f
-full_effect p t older line (Counts top file) f = (f, tt)
-full_effect p t older line (Adds name top file) f = full_add p name t _ line f
-full_effect p t older line (Joins name least top file) f = full_join p name least t _ line f
-
-full_at : (program : Program) (source : Data) (p : Path) (t : Thread) (top : Activation) (older : List Activation) (o : Option Item) → FullAt p t.standing → FullMove p (move_at program source p t top older o)
-full_at program source p t top older None f = tt
-full_at program source p t top older (Some item) f = full_effect p t older item.line (item_effect program source item.kind top t.registers) f
-
-full_of : (program : Program) (source : Data) (p : Path) (t : Thread) (activations : List Activation) → FullAt p t.standing → FullMove p (move_of program source p t activations)
-full_of program source p t [] f = tt
-full_of program source p t (top ∷ older) f = full_at program source p t top older (item_at program top) f
-
-full_standing : (program : Program) (source : Data) (p : Path) (t : Thread) (s : Standing) → FullAt p t.standing → FullMove p (move_standing program source p t s)
-full_standing program source p t Going f = full_of program source p t t.activations f
-full_standing program source p t (Ended v) f = tt
-full_standing program source p t (Trapped kind line) f = tt
-full_standing program source p t Full f = tt
-
-full_enabled : (h : Heap) (p : Path) (m : Move) (c : Change) → FullMove p m → Enabled h m c → FullChange p c
-full_enabled h p Stays c f e = absurd e
-full_enabled h p (Moves d) c f e = subst (FullChange p) e f
-full_enabled h p (Touch q g) c f e = subst (FullChange p) e.2 (f e.0)
-full_enabled h p (Join q n least d) c f e = subst (FullChange p) e.1 f
-
-abbrev FullAll : Heap → Type 0
-FullAll h = (p : Path) (t : Thread) → h.thread p ≡ Some t → FullAt p t.standing
-
-full_child : (p : Path) (c : Option Thread) → FullChild c → OfChild (λ q u. FullAt q u.standing) p c
-full_child p None f = tt
-full_child p (Some child) f = λ e. let x : Going ≡ Full = sym f ∙ e in cc
-
-full_step : (program : Program) (source : Data) (h : Heap) (p : Path) (h' : Heap) → FullAll h → HStep program source h p h' → FullAll h'
-unfolding move
-full_step program source h p h' all s =
-    let change = full_enabled h p (move program source p s.thread) s.change (full_standing program source p s.thread s.thread.standing (all p s.thread s.here)) s.enabled in
-    subst FullAll s.next
-    (each_after (λ q u. FullAt q u.standing) h p s.thread s.change change.0 (full_child (p ++ s.thread.forks ∷ []) s.change.child change.1) (λ q u ne there. all q u there))
-
-full_run : (program : Program) (source : Data) (h : Heap) (ps : List Path) (h' : Heap) → FullAll h → Run program source h ps h' → FullAll h'
-full_run program source h [] h' all run = subst FullAll run all
-full_run program source h (p ∷ ps) h' all run = full_run program source run.0 ps h' (full_step program source h p run.0 all run.1) run.2
-
 -- ---- the answer
 abbrev Answered : Program → Heap → Type 0
 Answered program h = (answer : QuietAnswer) × ((out : List ℕ) × IsAnswer program h answer out)
 
-answer_event : (program : Program) (h : Heap) (p : Path) (t : Thread) (s : Standing) → FullAll h → h.thread p ≡ Some t → t.standing ≡ s → IsEvent s → IsLeast IsEvent h p t → Answered program h
+answer_event : (program : Program) (h : Heap) (p : Path) (t : Thread) (s : Standing) → AllHaveBytes h → h.thread p ≡ Some t → t.standing ≡ s → IsEvent s → IsLeast IsEvent h p t → Answered program h
 answer_event program h p t Going full here is event least = absurd event
 answer_event program h p t (Ended v) full here is event least = absurd event
 answer_event program h p t (Trapped kind line) full here is event least = (Trap kind line p, (_, (t, (here, is, least, refl))))
 answer_event program h p t Full full here is event least =
-    let root : p ≡ [] = full p t here is in
+    let root : p ≡ [] = (full p t here).full is in
     (OutLimit, (_, (t, (subst (λ x. h.thread x ≡ Some t) root here, is, subst (λ x. IsLeast IsEvent h x t) root least, refl))))
 
 line_there : (program : Program) (source : Data) (t : Thread) → HasNext program source t → (line : Line) × (line_at program t.activations ≡ Some line)
@@ -296,17 +192,17 @@ answer_waits program source h ts all none l next =
     (Deadlock line.0 l.path, (_, (l.thread, (l.here, none, l.is, line.1, (λ q u there st. l.least q u (all q u there) there st), refl))))
 
 pub has_answer : HasAnswer
-has_answer program source s ps h first accepted run =
-    let start = in_run program source (first_heap s) ps h ([] ∷ []) (λ p t here. inl (alone_is _ p t (decide p []) here)) run in
+has_answer program source h accepted r =
+    let start = in_run program source (first_heap r.first) r.steps h ([] ∷ []) (λ p t here. inl (alone_is _ p t (decide p []) here)) r.run in
     let ts = start.0 in
     let all = start.1 in
-    let full = full_run program source (first_heap s) ps h (λ p t here e. alone_is _ p t (decide p []) here) run in
+    let full = reached_bytes program source _ r.steps h refl refl r.run in
     elim (find IsEvent h event_or ts) [
       | inl l ↦ answer_event program h l.path l.thread l.thread.standing full l.here refl l.is (λ q u there st. l.least q u (all q u there) there st)
       | inr none ↦
           let quiet : HasNone IsEvent h = λ q u there st. none q u (all q u there) there st in
           elim (find IsGoing h going_or ts) [
-            | inl l ↦ answer_waits program source h ts all quiet l (heap_defined program source s ps h l.path l.thread accepted first run l.here (going_is l.thread.standing l.is))
+            | inl l ↦ answer_waits program source h ts all quiet l (heap_defined program source h l.path l.thread accepted r l.here (going_is l.thread.standing l.is))
             | inr done ↦ (Done, (_, (quiet, (λ q u there st. done q u (all q u there) there st), refl)))
           ]
     ]

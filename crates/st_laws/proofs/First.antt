@@ -1,5 +1,5 @@
--- The first heap has the thread of the first ordinary state: start_stands.
-use Rattle.std.proofs.Common.{◌≡◌, ◌≢◌, ℕ, [], ◌∷◌, ◌++◌, length, Option, Some, None, refl, ◌⊎◌, inl, inr}
+-- The first heap has the thread of the first ordinary state: start_stands. It has the root alone: alone_is, alone_thread.
+use Rattle.std.proofs.Common.{◌≡◌, ◌≢◌, ℕ, [], ◌∷◌, ◌++◌, length, Option, Some, None, refl, subst, ◌⊎◌, inl, inr}
 use Rattle.std.specs.Prelude.{slice_get}
 use Rattle.st_base.specs.declared.thread.Thread.{Thread}
 use Rattle.st_model.specs.declared.program.Program.{Program}
@@ -9,7 +9,8 @@ use Rattle.st_model.specs.Ordinary.{started}
 use Rattle.st_laws.specs.Sequential.{FirstStands, StartStands}
 use Rattle.st_laws.proofs.HeapSteps.{put_same, put_other, decide}
 
-no_child : (p : Path) (k : ℕ) → p ++ k ∷ [] ≢ []
+-- the path of a child is not the root's
+pub no_child : (p : Path) (k : ℕ) → p ++ k ∷ [] ≢ []
 no_child [] k e = cc
 no_child (x ∷ p) k e = cc
 
@@ -19,6 +20,14 @@ alone t p k = put_other [] (p ++ k ∷ []) (Some t) (λ q. None) (no_child p k)
 pub alone_is : (t : Thread) (p : Path) (u : Thread) → (p ≡ []) ⊎ (p ≢ []) → put [] (Some t) (λ q. None) p ≡ Some u → p ≡ []
 alone_is t p u (inl e) is = e
 alone_is t p u (inr ne) is = let x = put_other [] p (Some t) (λ q. None) ne in cc
+
+-- the root is the one thread there, in this state
+pub alone_thread : (t : Thread) (p : Path) (u : Thread) → put [] (Some t) (λ q. None) p ≡ Some u → (p ≡ []) × (u ≡ t)
+alone_thread t p u is =
+    let root : p ≡ [] = alone_is t p u (decide p []) is in
+    let here : put [] (Some t) (λ q. None) [] ≡ Some u = subst (λ q. put [] (Some t) (λ r. None) q ≡ Some u) root is in
+    let same : u ≡ t = cc in
+    (root, same)
 
 started_stands : (program : Program) (input : ℕ) (o : Option ProgramFunction) → FirstStands (started program input o)
 started_stands program input None = tt

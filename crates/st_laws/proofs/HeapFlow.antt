@@ -183,8 +183,10 @@ next_of p source t (top ∷ older) accepted is f =
     (top, (older, (is, (a.0, (a.1, effect_is p top _ a.2)))))
 
 pub heap_defined : HeapDefined
-heap_defined p source s ps h q t accepted is run here going =
+heap_defined p source h q t accepted r here going =
+    let s = r.first in
+    let is = r.is_first in
     let first = first_sound p (length source.input) accepted.main s accepted accepted.has_main accepted.main_ints accepted.main_handles (subst (λ o. started p (length source.input) o ≡ Some s) accepted.has_main is) in
-    let sound = run_sound p source (first_heap s) ps h accepted first run in
+    let sound = run_sound p source (first_heap s) r.steps h accepted first r.run in
     let good : ThreadSound p t = subst (OptionSound p) here (sound q) in
     next_of p source t t.activations accepted refl (subst (StandingSound p t) going good)

@@ -1,5 +1,5 @@
 -- In each reached heap the names that threads hold are of threads and counters that are there: names_are_there.
-use Rattle.std.proofs.Common.{◌≡◌, ◌≢◌, ℕ, ◌+◌, ◌<◌, ◌≤◌, Bool, true, false, cond, List, [], ◌∷◌, ◌++◌, length, Option, Some, None, refl, sym, ap, ◌∙◌, subst, arith, ◌⊎◌, inl, inr, ◌==◌}
+use Rattle.std.proofs.Common.{◌≡◌, ◌≢◌, ℕ, ◌+◌, ◌<◌, Bool, true, false, cond, List, [], ◌∷◌, ◌++◌, length, Option, Some, None, refl, sym, ap, ◌∙◌, subst, arith, ◌⊎◌, inl, inr, ◌==◌}
 use Rattle.std.specs.Prelude.{slice_get, ◌&&◌}
 use Rattle.std.specs.Str.{bytes_eq}
 use Rattle.st_base.specs.declared.thread.Held.{Held}
@@ -26,6 +26,8 @@ use Rattle.st_laws.specs.Sequential.{thread_of}
 use Rattle.st_laws.specs.Names.{IsKnown, AreKnown, KnowsNames, AllKnowNames, IsThread, IsMade, NamesStand, NamesAreThere}
 use Rattle.st_laws.proofs.HeapSteps.{put_same, put_other, decide}
 use Rattle.st_laws.proofs.Numbering.{longer, numbered_after}
+use Rattle.st_laws.proofs.First.{alone_thread}
+use Rattle.st_laws.proofs.ItemChanges.{step_counters}
 use Rattle.st_laws.proofs.HeapRuns.{other_stays}
 use Rattle.st_laws.proofs.Later.{step_forks}
 use Rattle.st_laws.proofs.Placing.{OfChild, each_after, same_counter}
@@ -34,12 +36,13 @@ use Rattle.st_laws.proofs.NamesHold.{more_cells, more_frames, known_zeroed}
 use Rattle.st_laws.proofs.Quieting.{first_stands}
 use Rattle.st_model.specs.Memory.{Data}
 
-abbrev IsNew : Option Thread → Type 0
-IsNew None = ⊥
-IsNew (Some child) = Unit {0}
+-- a child was made
+abbrev IsThere : Option Thread → Type 0
+IsThere None = ⊥
+IsThere (Some child) = Unit {0}
 
 abbrev Thread' : Heap → Path → Thread → Option Thread → Path → Type 0
-Thread' h p t child q = IsThread h q ⊎ ((q ≡ p ++ t.forks ∷ []) × IsNew child)
+Thread' h p t child q = IsThread h q ⊎ ((q ≡ p ++ t.forks ∷ []) × IsThere child)
 
 abbrev Made' : Heap → Path → ℕ → Path → ℕ → Type 0
 Made' h p counters q n = IsMade h q n ⊎ ((q ≡ p) × (n < counters))
@@ -60,7 +63,6 @@ AddedKnown h (Some c) = IsMade h c.0 c.1
 
 record ChangeKnows (h : Heap) (p : Path) (t : Thread) (c : Change) : Type 0 where
   own : KnowsAll (Thread' h p t c.child) (Made' h p c.own.counters) c.own
-  counters : t.counters ≤ c.own.counters
   child : ChildKnows h c.child
   added : AddedKnown h c.added
 
@@ -71,45 +73,44 @@ MoveKnows h p t (Touch q f) = (v : ℕ) → ChangeKnows h p t (f v)
 MoveKnows h p t (Join q n least c) = ChangeKnows h p t c
 
 module _ (h : Heap) (p : Path) (t : Thread) where
-  alone_knows : (next : Thread) (added : Option (Path × ℕ)) (printed : Option ℕ) → KnowsAll (IsThread h) (IsMade h) next → t.counters ≤ next.counters → AddedKnown h added → ChangeKnows h p t record { own = next; child = None; added = added; printed = printed }
-  alone_knows next added printed k le a =
+  alone_knows : (next : Thread) (added : Option (Path × ℕ)) (printed : Option ℕ) → KnowsAll (IsThread h) (IsMade h) next → AddedKnown h added → ChangeKnows h p t record { own = next; child = None; added = added; printed = printed }
+  alone_knows next added printed k a =
       record {
         own = more_all (IsThread h) (Thread' h p t None) (IsMade h) (Made' h p next.counters) (λ q x. inl x) (λ q n x. inl x) next k;
-        counters = le;
         child = tt;
         added = a;
       }
 
-  printed_knows : (root room : Bool) (byte : ℕ) (next : Thread) (line : Line) → KnowsAll (IsThread h) (IsMade h) t → KnowsAll (IsThread h) (IsMade h) next → t.counters ≤ next.counters → MoveKnows h p t (printed_move root room byte t next line)
-  printed_knows true true byte next line k n le = alone_knows next None (Some byte) n le tt
-  printed_knows true false byte next line k n le = alone_knows (record t { standing = Full }) None None k (omega arith) tt
-  printed_knows false room byte next line k n le = alone_knows _ None None k (omega arith) tt
+  printed_knows : (root room : Bool) (byte : ℕ) (next : Thread) (line : Line) → KnowsAll (IsThread h) (IsMade h) t → KnowsAll (IsThread h) (IsMade h) next → MoveKnows h p t (printed_move root room byte t next line)
+  printed_knows true true byte next line k n = alone_knows next None (Some byte) n tt
+  printed_knows true false byte next line k n = alone_knows (record t { standing = Full }) None None k tt
+  printed_knows false room byte next line k n = alone_knows _ None None k tt
 
-  touch_knows : (name : Held) (next : Thread) (line : Line) → KnowsAll (IsThread h) (IsMade h) t → KnowsAll (IsThread h) (IsMade h) next → t.counters ≤ next.counters → MoveKnows h p t (touch_move name t next line)
-  touch_knows (Number n) next line k x le = alone_knows _ None None k (omega arith) tt
-  touch_knows (Future q) next line k x le = λ v.
+  touch_knows : (name : Held) (next : Thread) (line : Line) → KnowsAll (IsThread h) (IsMade h) t → KnowsAll (IsThread h) (IsMade h) next → MoveKnows h p t (touch_move name t next line)
+  touch_knows (Number n) next line k x = alone_knows _ None None k tt
+  touch_knows (Future q) next line k x = λ v.
       alone_knows (record next { registers = write_register next.registers A0 (Number v) }) None None
-      (known_write (IsThread h) (IsMade h) next.registers A0 (Number v) x.0 tt, x.1) le tt
-  touch_knows (Counter q n) next line k x le = alone_knows _ None None k (omega arith) tt
+      (known_write (IsThread h) (IsMade h) next.registers A0 (Number v) x.0 tt, x.1) tt
+  touch_knows (Counter q n) next line k x = alone_knows _ None None k tt
 
-  add_knows : (name : Held) (next : Thread) (line : Line) → IsKnown (IsThread h) (IsMade h) name → KnowsAll (IsThread h) (IsMade h) t → KnowsAll (IsThread h) (IsMade h) next → t.counters ≤ next.counters → MoveKnows h p t (add_move name t next line)
-  add_knows (Number n) next line known k x le = alone_knows _ None None k (omega arith) tt
-  add_knows (Future q) next line known k x le = alone_knows _ None None k (omega arith) tt
-  add_knows (Counter q n) next line known k x le = alone_knows next (Some (q, n)) None x le known
+  add_knows : (name : Held) (next : Thread) (line : Line) → IsKnown (IsThread h) (IsMade h) name → KnowsAll (IsThread h) (IsMade h) t → KnowsAll (IsThread h) (IsMade h) next → MoveKnows h p t (add_move name t next line)
+  add_knows (Number n) next line known k x = alone_knows _ None None k tt
+  add_knows (Future q) next line known k x = alone_knows _ None None k tt
+  add_knows (Counter q n) next line known k x = alone_knows next (Some (q, n)) None x known
 
-  join_knows : (name : Held) (least : ℕ) (next : Thread) (line : Line) → KnowsAll (IsThread h) (IsMade h) t → KnowsAll (IsThread h) (IsMade h) next → t.counters ≤ next.counters → MoveKnows h p t (join_move name least t next line)
-  join_knows (Number n) least next line k x le = alone_knows _ None None k (omega arith) tt
-  join_knows (Future q) least next line k x le = alone_knows _ None None k (omega arith) tt
-  join_knows (Counter q n) least next line k x le = alone_knows next None None x le tt
+  join_knows : (name : Held) (least : ℕ) (next : Thread) (line : Line) → KnowsAll (IsThread h) (IsMade h) t → KnowsAll (IsThread h) (IsMade h) next → MoveKnows h p t (join_move name least t next line)
+  join_knows (Number n) least next line k x = alone_knows _ None None k tt
+  join_knows (Future q) least next line k x = alone_knows _ None None k tt
+  join_knows (Counter q n) least next line k x = alone_knows next None None x tt
 
   effect_knows : (older : List Activation) (line : Line) (effect : Effect) → KnowsAll (IsThread h) (IsMade h) t → AllKnowNames (IsThread h) (IsMade h) older → EffectKnows (IsThread h) (IsMade h) effect → MoveKnows h p t (effect_move p t older line effect)
   effect_knows older line Undefined k o e = tt
-  effect_knows older line (Goes top file) k o e = alone_knows _ None None (e.1, (e.0, o)) (omega arith) tt
-  effect_knows older line (Calls top callee file) k o e = alone_knows _ None None (e.2, (e.1, (e.0, o))) (omega arith) tt
-  effect_knows older line (Returns file) k o e = alone_knows _ None None (e, o) (omega arith) tt
-  effect_knows older line (Ends v kept) k o e = alone_knows _ None None k (omega arith) tt
-  effect_knows older line (Traps kind) k o e = alone_knows _ None None k (omega arith) tt
-  effect_knows older line (Prints byte top file) k o e = printed_knows _ _ byte _ line k (e.1, (e.0, o)) (omega arith)
+  effect_knows older line (Goes top file) k o e = alone_knows _ None None (e.1, (e.0, o)) tt
+  effect_knows older line (Calls top callee file) k o e = alone_knows _ None None (e.2, (e.1, (e.0, o))) tt
+  effect_knows older line (Returns file) k o e = alone_knows _ None None (e, o) tt
+  effect_knows older line (Ends v kept) k o e = alone_knows _ None None k tt
+  effect_knows older line (Traps kind) k o e = alone_knows _ None None k tt
+  effect_knows older line (Prints byte top file) k o e = printed_knows _ _ byte _ line k (e.1, (e.0, o))
   effect_knows older line (Forks top child handle passed file) k o e =
       let child' : Thread = record { activations = child ∷ []; registers = passed; forks = 0; counters = 0; bytes = 0; standing = Going } in
       let F = Thread' h p t (Some child') in
@@ -121,11 +122,10 @@ module _ (h : Heap) (p : Path) (t : Thread) where
           known_write F C file handle (Future (p ++ t.forks ∷ [])) (more_cells (IsThread h) F (IsMade h) C f c file e.3) (inr (refl, tt)),
           more_frames (IsThread h) F (IsMade h) C f c (top ∷ older) (e.0, o),
         );
-        counters = omega arith;
         child = (e.2, (e.1, tt));
         added = tt;
       }
-  effect_knows older line (Touches name top file) k o e = touch_knows name _ line k (e.2, (e.1, o)) (omega arith)
+  effect_knows older line (Touches name top file) k o e = touch_knows name _ line k (e.2, (e.1, o))
   effect_knows older line (Counts top file) k o e =
       let F = Thread' h p t None in
       let C = Made' h p (t.counters + 1) in
@@ -136,12 +136,11 @@ module _ (h : Heap) (p : Path) (t : Thread) where
           known_write F C file A6 (Counter p t.counters) (more_cells (IsThread h) F (IsMade h) C f c file e.1) (inr (refl, omega arith)),
           more_frames (IsThread h) F (IsMade h) C f c (top ∷ older) (e.0, o),
         );
-        counters = omega arith;
         child = tt;
         added = tt;
       }
-  effect_knows older line (Adds name top file) k o e = add_knows name _ line e.0 k (e.2, (e.1, o)) (omega arith)
-  effect_knows older line (Joins name least top file) k o e = join_knows name least _ line k (e.2, (e.1, o)) (omega arith)
+  effect_knows older line (Adds name top file) k o e = add_knows name _ line e.0 k (e.2, (e.1, o))
+  effect_knows older line (Joins name least top file) k o e = join_knows name least _ line k (e.2, (e.1, o))
 
   at_knows : (program : Program) (source : Data) (top : Activation) (older : List Activation) (o : Option Item) → KnowsAll (IsThread h) (IsMade h) t → AllKnowNames (IsThread h) (IsMade h) (top ∷ older) → MoveKnows h p t (move_at program source p t top older o)
   at_knows program source top older None k frames = tt
@@ -170,7 +169,7 @@ module _ (h : Heap) (p : Path) (t : Thread) where
   enabled_knows (Join q n least d) c k e = subst (ChangeKnows h p t) e.1 k
 
 -- ---- after a step
-new_there : (h : Heap) (p : Path) (t own : Thread) (child : Option Thread) (added : Option (Path × ℕ)) (printed : Option ℕ) → IsNew child → IsThread (after h p t record { own = own; child = child; added = added; printed = printed }) (p ++ t.forks ∷ [])
+new_there : (h : Heap) (p : Path) (t own : Thread) (child : Option Thread) (added : Option (Path × ℕ)) (printed : Option ℕ) → IsThere child → IsThread (after h p t record { own = own; child = child; added = added; printed = printed }) (p ++ t.forks ∷ [])
 new_there h p t own None added printed new = absurd new
 new_there h p t own (Some child) added printed new =
     let p' = p ++ t.forks ∷ [] in
@@ -207,7 +206,7 @@ names_step program source h p h' numbered names s =
           let same : x.0 ≡ t = let y = s.here in cc in
           let counters : x.0.counters ≡ t.counters = ap (λ y. y.counters) same in
           let less = x.1.1 in
-          let le = k.counters in
+          let le = step_counters program source h p h' s in
           (c.own, (subst (λ y. g.thread y ≡ Some c.own) (sym e) own_there, omega arith))
       | inr ne ↦ (x.0, (other_stays program source h q p g x.0 numbered x.1.0 ne hstep, x.1.1))
     ] in
@@ -246,17 +245,11 @@ NoThread p = ⊥
 abbrev NoneMade : Path → ℕ → Type 0
 NoneMade p n = ⊥
 
-first_thread : (t u : Thread) (p : Path) → (p ≡ []) ⊎ (p ≢ []) → put [] (Some t) (λ q. None) p ≡ Some u → t ≡ u
-first_thread t u p (inl e) is =
-    let mine : put [] (Some t) (λ q. None) [] ≡ Some u = subst (λ x. put [] (Some t) (λ q. None) x ≡ Some u) e is in
-    let x = put_same [] (Some t) (λ q. None) in cc
-first_thread t u p (inr ne) is = let x = put_other [] p (Some t) (λ q. None) ne in cc
-
 alone_names : (t : Thread) → KnowsAll NoThread NoneMade t → NamesStand record { thread = put [] (Some t) (λ p. None); count = λ p k. 0; out = [] }
 alone_names t known =
     let h : Heap = record { thread = put [] (Some t) (λ p. None); count = λ p k. 0; out = [] } in
     let all : (p : Path) (u : Thread) → h.thread p ≡ Some u → KnowsAll (IsThread h) (IsMade h) u = λ p u is.
-    subst (KnowsAll (IsThread h) (IsMade h)) (first_thread t u p (decide p []) is)
+    subst (KnowsAll (IsThread h) (IsMade h)) (sym (alone_thread t p u is).1)
     (more_all NoThread (IsThread h) NoneMade (IsMade h) (λ q x. absurd x) (λ q n x. absurd x) t known) in
     record { registers = λ p u is. (all p u is).0; activations = λ p u is. (all p u is).1; counts = λ p n ne. absurd (ne refl) }
 
@@ -275,7 +268,7 @@ first_names program input (Some function) =
     alone_names t known
 
 pub names_are_there : NamesAreThere
-names_are_there program source s ps h first run =
-    let stands = first_stands program source s first in
-    names_run program source (first_heap s) ps h stands.1
-    (subst FirstNames first (first_names program (length source.input) (slice_get program.functions program.main))) run
+names_are_there program source h r =
+    let stands = first_stands program source r.first r.is_first in
+    names_run program source (first_heap r.first) r.steps h stands.1
+    (subst FirstNames r.is_first (first_names program (length source.input) (slice_get program.functions program.main))) r.run

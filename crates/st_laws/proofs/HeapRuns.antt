@@ -1,4 +1,5 @@
--- Runs from one start. strip takes a thread's step out of a run, or puts it behind it; with it any two runs can be led together (led_together),
+-- Runs from one start. strip takes a thread's step out of a run, or puts it behind it; with it any two runs can be led together (led_together)
+-- and have one end where each thread makes as many steps (same_steps),
 -- quiet heaps are equal (one_quiet) and reached from each heap of a run (quiet_reached), no run is longer than one to a quiet heap (no_longer),
 -- and a thread's state is determined by the number of its own steps (one_history).
 use Rattle.std.proofs.Common.{◌≡◌, ◌≢◌, ℕ, ◌+◌, ◌≤◌, Bool, true, false, cond, List, [], ◌∷◌, ◌++◌, length, Some, refl, sym, ap, ◌∙◌, subst, arith, ◌⊎◌, inl, inr}
@@ -10,7 +11,7 @@ use Rattle.st_model.specs.declared.program.Program.{Program}
 use Rattle.st_model.specs.Ordinary.{run}
 use Rattle.st_model.specs.Heap.{Path, Heap, HStep, Run, IsNumbered, steps_of}
 use Rattle.st_model.specs.Quiet.{IsQuiet}
-use Rattle.st_laws.specs.Steps.{OneQuiet, OneHistory, KeepsStep}
+use Rattle.st_laws.specs.Steps.{OneQuiet, OneHistory, KeepsStep, LedTogether, SameSteps}
 use Rattle.st_laws.proofs.HeapSteps.{eq_same, eq_other, thread_stays, diamond, decide, same_step}
 use Rattle.st_model.specs.Memory.{Data}
 use Rattle.st_laws.proofs.Numbering.{numbered_after, numbered_run}
@@ -141,15 +142,6 @@ one_history program source h (q ∷ ps) qs a b p t u numbered s run count ta ub 
     ]
 
 -- ---- two runs from one start can be led together, each thread making the steps of the one that had made more
-pub record Joined (program : Program) (source : Data) (a b : Heap) (ps qs : List Path) : Type 0 where
-  pub end : Heap
-  pub more_a : List Path
-  pub more_b : List Path
-  pub run_a : Run program source a more_a end
-  pub run_b : Run program source b more_b end
-  pub steps_a : (r : Path) → steps_of r ps + steps_of r more_a ≡ max (steps_of r ps) (steps_of r qs)
-  pub steps_b : (r : Path) → steps_of r qs + steps_of r more_b ≡ max (steps_of r ps) (steps_of r qs)
-
 both_more : (b : Bool) (x y m : ℕ) → x + m ≡ max x y → cond b (x + 1) x + m ≡ max (cond b (x + 1) x) (cond b (y + 1) y)
 both_more true x y m e = omega arith
 both_more false x y m e = omega arith
@@ -166,7 +158,7 @@ other_sided : (b : Bool) (x y m : ℕ) → (b ≡ true → y ≡ 0) → y + m �
 other_sided true x y m z e = let w = z refl in omega arith
 other_sided false x y m z e = e
 
-pub led_together : (program : Program) (source : Data) (h : Heap) (ps qs : List Path) (a b : Heap) → IsNumbered h → Run program source h ps a → Run program source h qs b → Joined program source a b ps qs
+pub led_together : LedTogether
 led_together program source h [] qs a b numbered s run =
     record {
       end = b;
@@ -204,6 +196,24 @@ led_together program source h (q ∷ ps) qs a b numbered s run =
             steps_b = λ r. other_sided (bytes_eq r q) (steps_of r ps) (steps_of r qs) (steps_of r j.more_b) (zero r) (j.steps_b r);
           }
     ]
+
+-- ---- two runs with as many steps of each thread
+none_made : (ps : List Path) → ((r : Path) → steps_of r ps ≡ 0) → ps ≡ []
+none_made [] none = refl
+none_made (p ∷ ps) none =
+    let one : steps_of p (p ∷ ps) ≡ steps_of p ps + 1 = ap (λ (b : Bool). cond b (steps_of p ps + 1) (steps_of p ps)) (eq_same p) in
+    let zero_too = none p in
+    absurd (omega arith)
+
+empty_run : (program : Program) (source : Data) (h : Heap) (ps : List Path) (h' : Heap) → ps ≡ [] → Run program source h ps h' → h ≡ h'
+empty_run program source h ps h' none run = subst (λ (qs : List Path). Run program source h qs h') none run
+
+pub same_steps : SameSteps
+same_steps program source h ps qs a b numbered run other same =
+    let j = led_together program source h ps qs a b numbered run other in
+    let none_a = none_made j.more_a (λ r. let e = j.steps_a r in let s = same r in omega arith) in
+    let none_b = none_made j.more_b (λ r. let e = j.steps_b r in let s = same r in omega arith) in
+    empty_run program source a j.more_a j.end none_a j.run_a ∙ sym (empty_run program source b j.more_b j.end none_b j.run_b)
 
 -- ---- longer runs
 pub run_snoc : (program : Program) (source : Data) (h : Heap) (ps : List Path) (h' : Heap) (p : Path) (h'' : Heap) → Run program source h ps h' → HStep program source h' p h'' → Run program source h (ps ++ p ∷ []) h''

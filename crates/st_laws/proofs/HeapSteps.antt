@@ -14,7 +14,7 @@ use Rattle.st_model.specs.declared.program.Program.{Program}
 use Rattle.st_model.specs.declared.output.Printed.{Printed}
 use Rattle.st_model.specs.Heap.{Path, Heap, Change, Move, Stays, Moves, Touch, Join, move, move_standing, Enabled, put, put_child, count_up, print, after, HStep, IsNumbered}
 use Rattle.st_model.specs.Ordinary.{counted}
-use Rattle.st_laws.specs.Steps.{Diamond}
+use Rattle.st_laws.specs.Steps.{Diamond, OneStep}
 use Rattle.st_model.specs.Memory.{Data}
 
 decide_by : (b : Bool) (p q : Path) → bytes_eq p q ≡ b → (p ≡ q) ⊎ (p ≢ q)
@@ -35,6 +35,9 @@ put_same p a f = ap (λ b. cond b a (f p)) (eq_same p)
 
 pub put_other : {A : Type 0} (p q : Path) (a : A) (f : Path → A) → q ≢ p → put p a f q ≡ f q
 put_other p q a f ne = ap (λ b. cond b a (f q)) (eq_other q p ne)
+
+pub same_thread : (h : Heap) (p : Path) (t u : Thread) → h.thread p ≡ Some t → h.thread p ≡ Some u → t ≡ u
+same_thread h p t u a b = cc
 
 abbrev pub standing_or : Option Thread → Thread → Standing
 standing_or None t = t.standing
@@ -80,7 +83,7 @@ bump_more : (b : Bool) (least n : ℕ) → least ≤ n → least ≤ cond b (cou
 bump_more true least n h = omega arith
 bump_more false least n h = h
 
-count_more : (a : Option (Path × ℕ)) (f : Path → ℕ → ℕ) (q : Path) (k least : ℕ) → least ≤ f q k → least ≤ count_up a f q k
+pub count_more : (a : Option (Path × ℕ)) (f : Path → ℕ → ℕ) (q : Path) (k least : ℕ) → least ≤ f q k → least ≤ count_up a f q k
 count_more None f q k least h = h
 count_more (Some a) f q k least h = bump_more _ least (f q k) h
 
@@ -168,3 +171,6 @@ same_step program source h p a b s t =
     let enabled : Enabled h (move program source p t.thread) s.change = subst (λ x. Enabled h (move program source p x) s.change) thread s.enabled in
     let change : s.change ≡ t.change = same_change h (move program source p t.thread) s.change t.change enabled t.enabled in
     sym s.next ∙ (λ i. after h p (thread i) (change i)) ∙ t.next
+
+pub one_step : OneStep
+one_step program source h a b p s t = same_step program source h p a b s t

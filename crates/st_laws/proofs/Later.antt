@@ -1,21 +1,18 @@
 -- What the threads of a heap are in a longer run: they are there (run_there), have made no fewer forks (step_forks, later_forks), and are as they
 -- were where they had stopped (stopped_stays), since a thread that has stopped has no step (no_step).
-use Rattle.std.proofs.Common.{◌≡◌, ℕ, ◌≤◌, List, [], ◌∷◌, ◌++◌, Option, Some, None, sym, ap, subst, arith, inl, inr, ◌≢◌}
+use Rattle.std.proofs.Common.{◌≡◌, ℕ, ◌≤◌, List, [], ◌∷◌, ◌++◌, Some, sym, ap, subst, arith, inl, inr, ◌≢◌}
 use Rattle.st_base.specs.declared.thread.Thread.{Thread}
 use Rattle.st_model.specs.declared.program.Program.{Program}
 use Rattle.st_model.specs.Heap.{Path, Heap, move, put_child, HStep, Run, IsNumbered, steps_of, Change, move_standing, Enabled}
 use Rattle.st_laws.specs.Steps.{LaterForks}
 use Rattle.st_laws.proofs.HeapSteps.{put_same, thread_stays, decide}
-use Rattle.st_laws.proofs.Numbering.{IsFitChild, enabled_fits, move_fits, numbered_after, numbered_run}
+use Rattle.st_laws.proofs.Numbering.{numbered_after, numbered_run}
+use Rattle.st_laws.proofs.ItemChanges.{step_change}
 use Rattle.st_laws.proofs.HeapRuns.{rests, led_together}
 use Rattle.st_model.specs.Memory.{Data}
 use Rattle.st_base.specs.declared.thread.Standing.{Standing}
 use Rattle.st_base.specs.declared.thread.Standing.TheVariants.{Going, Ended, Trapped, Full}
 use Rattle.st_model.specs.Ordinary.{run}
-
-pub fit_grows : (old new : ℕ) (child : Option Thread) → IsFitChild old new child → old ≤ new
-fit_grows old new None fit = omega arith
-fit_grows old new (Some child) fit = let e = fit.0 in omega arith
 
 pub step_forks : (program : Program) (source : Data) (h : Heap) (p r : Path) (h' : Heap) (t : Thread) → IsNumbered h → h.thread r ≡ Some t → HStep program source h p h' → (u : Thread) × (h'.thread r ≡ Some u) × (t.forks ≤ u.forks)
 step_forks program source h p r h' t numbered here s =
@@ -23,8 +20,7 @@ step_forks program source h p r h' t numbered here s =
       | inl e ↦
           let at : h.thread p ≡ Some t = subst (λ x. h.thread x ≡ Some t) e here in
           let same : s.thread ≡ t = let x = s.here in cc in
-          let fit = enabled_fits h s.thread (move program source p s.thread) s.change (move_fits program source p s.thread) s.enabled in
-          let grows = fit_grows s.thread.forks s.change.own.forks s.change.child fit in
+          let grows = (step_change program source h p h' s).forks in
           let forks : s.thread.forks ≡ t.forks = ap (λ x. x.forks) same in
           let new : h'.thread p ≡ Some s.change.own =
           subst (λ x. x.thread p ≡ Some s.change.own) s.next (put_same p (Some s.change.own) (put_child (p ++ s.thread.forks ∷ []) s.change.child h.thread)) in

@@ -1,4 +1,6 @@
 pub mod HeapSteps
+pub mod ItemDraws
+pub mod ItemChanges
 pub mod Numbering
 pub mod HeapRuns
 pub mod Later
@@ -19,3 +21,9 @@ pub mod HeapNames
 pub mod HeapFlow
 pub mod Finding
 pub mod Printing
+pub mod Forking
+pub mod CountBytes
+pub mod CountCells
+pub mod Staying
+pub mod Adding
+pub mod Summing

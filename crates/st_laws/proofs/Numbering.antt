@@ -1,95 +1,13 @@
--- A thread's children have the numbers below its forks, and a step keeps this: numbered_after, numbered_run. move_fits with enabled_fits says
--- what a step does to the number of forks: one more where it makes a child, else none.
-use Rattle.std.proofs.Common.{◌≡◌, ◌≢◌, ℕ, ◌+◌, ◌≤◌, Bool, true, false, cond, List, [], ◌∷◌, ◌++◌, length, Option, Some, None, refl, sym, ap, ◌∙◌, subst, arith, inl, inr}
+-- A thread's children have the numbers below its forks, and a step keeps this: numbered_after, numbered_run.
+use Rattle.std.proofs.Common.{◌≡◌, ◌≢◌, ℕ, ◌+◌, ◌≤◌, Bool, true, false, cond, List, [], ◌∷◌, ◌++◌, length, Option, Some, None, sym, ap, ◌∙◌, subst, arith, inl, inr}
 use Rattle.std.proofs.lemmas.List.{same_from_push, length-append}
-use Rattle.st_base.specs.declared.thread.Held.{Held}
-use Rattle.st_base.specs.declared.thread.Held.TheVariants.{Number, Future, Counter}
-use Rattle.st_base.specs.declared.thread.Activation.{Activation}
-use Rattle.st_base.specs.declared.line.Line.{Line}
-use Rattle.st_base.specs.declared.thread.Standing.{Standing}
-use Rattle.st_base.specs.declared.thread.Standing.TheVariants.{Going, Ended, Trapped, Full}
 use Rattle.st_base.specs.declared.thread.Thread.{Thread}
 use Rattle.st_model.specs.declared.program.Program.{Program}
-use Rattle.st_model.specs.declared.program.Item.{Item}
-use Rattle.st_model.specs.declared.effect.Effect.{Effect}
-use Rattle.st_model.specs.declared.effect.Effect.TheVariants.{Undefined, Goes, Calls, Returns, Ends, Traps, Prints, Forks, Touches, Counts, Adds, Joins}
-use Rattle.st_model.specs.Effect.{item_effect}
-use Rattle.st_model.specs.Ordinary.{item_at}
-use Rattle.st_model.specs.Heap.{Path, Heap, Change, Move, Stays, Moves, Touch, Join, move, move_standing, move_of, move_at, effect_move, printed_move, touch_move, add_move, join_move, Enabled, put, put_child, after, HStep, Run, IsNumbered}
+use Rattle.st_model.specs.Heap.{Path, Heap, put, put_child, after, HStep, Run, IsNumbered}
+use Rattle.st_laws.specs.Changes.{one_if, IsNew}
+use Rattle.st_laws.proofs.ItemChanges.{step_change}
 use Rattle.st_laws.proofs.HeapSteps.{put_same, put_other, put_child_other, decide}
 use Rattle.st_model.specs.Memory.{Data}
-
--- a step numbers the forks
-abbrev pub IsFitChild : ℕ → ℕ → Option Thread → Type 0
-IsFitChild old new None = new ≡ old
-IsFitChild old new (Some child) = (new ≡ old + 1) × (child.forks ≡ 0)
-
-abbrev pub IsFitChange : Thread → Change → Type 0
-IsFitChange t c = IsFitChild t.forks c.own.forks c.child
-
-abbrev pub IsFitMove : Thread → Move → Type 0
-IsFitMove t Stays = Unit {0}
-IsFitMove t (Moves c) = IsFitChange t c
-IsFitMove t (Touch q f) = (v : ℕ) → IsFitChange t (f v)
-IsFitMove t (Join q n least c) = IsFitChange t c
-
-printed_fits : (root room : Bool) (byte : ℕ) (t next : Thread) (line : Line) → next.forks ≡ t.forks → IsFitMove t (printed_move root room byte t next line)
-printed_fits true true byte t next line e = e
-printed_fits true false byte t next line e = refl
-printed_fits false room byte t next line e = refl
-
-touch_fits : (name : Held) (t next : Thread) (line : Line) → next.forks ≡ t.forks → IsFitMove t (touch_move name t next line)
-touch_fits (Number n) t next line e = refl
-touch_fits (Future q) t next line e = λ v. e
-touch_fits (Counter q n) t next line e = refl
-
-add_fits : (name : Held) (t next : Thread) (line : Line) → next.forks ≡ t.forks → IsFitMove t (add_move name t next line)
-add_fits (Number n) t next line e = refl
-add_fits (Future q) t next line e = refl
-add_fits (Counter q n) t next line e = e
-
-join_fits : (name : Held) (least : ℕ) (t next : Thread) (line : Line) → next.forks ≡ t.forks → IsFitMove t (join_move name least t next line)
-join_fits (Number n) least t next line e = refl
-join_fits (Future q) least t next line e = refl
-join_fits (Counter q n) least t next line e = e
-
-effect_fits : (p : Path) (t : Thread) (older : List Activation) (line : Line) (effect : Effect) → IsFitMove t (effect_move p t older line effect)
-effect_fits p t older line Undefined = tt
-effect_fits p t older line (Goes top file) = refl
-effect_fits p t older line (Calls top callee file) = refl
-effect_fits p t older line (Returns file) = refl
-effect_fits p t older line (Ends v kept) = refl
-effect_fits p t older line (Traps kind) = refl
-effect_fits p t older line (Prints byte top file) = printed_fits _ _ byte t _ line refl
-effect_fits p t older line (Forks top child handle passed file) = (refl, refl)
-effect_fits p t older line (Touches name top file) = touch_fits name t _ line refl
-effect_fits p t older line (Counts top file) = refl
-effect_fits p t older line (Adds name top file) = add_fits name t _ line refl
-effect_fits p t older line (Joins name least top file) = join_fits name least t _ line refl
-
-at_fits : (program : Program) (source : Data) (p : Path) (t : Thread) (top : Activation) (older : List Activation) (o : Option Item) → IsFitMove t (move_at program source p t top older o)
-at_fits program source p t top older None = tt
-at_fits program source p t top older (Some item) = effect_fits p t older item.line (item_effect program source item.kind top t.registers)
-
-of_fits : (program : Program) (source : Data) (p : Path) (t : Thread) (activations : List Activation) → IsFitMove t (move_of program source p t activations)
-of_fits program source p t [] = tt
-of_fits program source p t (top ∷ older) = at_fits program source p t top older (item_at program top)
-
-standing_fits : (program : Program) (source : Data) (p : Path) (t : Thread) (s : Standing) → IsFitMove t (move_standing program source p t s)
-standing_fits program source p t Going = of_fits program source p t t.activations
-standing_fits program source p t (Ended v) = tt
-standing_fits program source p t (Trapped kind line) = tt
-standing_fits program source p t Full = tt
-
-pub move_fits : (program : Program) (source : Data) (p : Path) (t : Thread) → IsFitMove t (move program source p t)
-unfolding move
-move_fits program source p t = standing_fits program source p t t.standing
-
-pub enabled_fits : (h : Heap) (t : Thread) (m : Move) (c : Change) → IsFitMove t m → Enabled h m c → IsFitChange t c
-enabled_fits h t Stays c fit e = absurd e
-enabled_fits h t (Moves d) c fit e = subst (IsFitChange t) e fit
-enabled_fits h t (Touch q f) c fit e = subst (IsFitChange t) e.2 (fit e.0)
-enabled_fits h t (Join q n least d) c fit e = subst (IsFitChange t) e.1 fit
 
 -- ---- a step keeps the numbering
 apart : (f : Path → Option Thread) (p s : Path) (t : Thread) → f p ≡ Some t → f s ≡ None → s ≢ p
@@ -175,17 +93,17 @@ orphan_after f p t own child orphan here r k is =
           still_empty f p t.forks t own child (r ++ k ∷ []) here (orphan r k (was_empty (p ++ t.forks ∷ []) child f r other)) (no_child_of_others p r t.forks k ne)
     ]
 
-free_after : (f : Path → Option Thread) (p : Path) (t own : Thread) (child : Option Thread) → Free f → Orphan f → f p ≡ Some t → IsFitChild t.forks own.forks child → Free (after_threads p t.forks own child f)
-free_after f p t own None free orphan here fit = free_none f p t own free here fit
-free_after f p t own (Some child) free orphan here fit = free_some f p t own child free orphan here fit.0 fit.1
+free_after : (f : Path → Option Thread) (p : Path) (t own : Thread) (child : Option Thread) → Free f → Orphan f → f p ≡ Some t → own.forks ≡ t.forks + one_if child → IsNew child → Free (after_threads p t.forks own child f)
+free_after f p t own None free orphan here forks new = free_none f p t own free here (omega arith)
+free_after f p t own (Some child) free orphan here forks new = free_some f p t own child free orphan here forks new.1
 
 pub numbered_after : (program : Program) (source : Data) (h : Heap) (p : Path) (h' : Heap) → IsNumbered h → HStep program source h p h' → IsNumbered h'
 numbered_after program source h p h' numbered s =
-    let fit = enabled_fits h s.thread (move program source p s.thread) s.change (move_fits program source p s.thread) s.enabled in
+    let change = step_change program source h p h' s in
     let now : IsNumbered (after h p s.thread s.change) =
     record {
       orphan = orphan_after h.thread p s.thread s.change.own s.change.child numbered.orphan s.here;
-      free = free_after h.thread p s.thread s.change.own s.change.child numbered.free numbered.orphan s.here fit;
+      free = free_after h.thread p s.thread s.change.own s.change.child numbered.free numbered.orphan s.here change.forks change.child;
     } in
     subst IsNumbered s.next now
 

@@ -18,24 +18,14 @@ use Rattle.st_laws.proofs.Sequence.{newest_of, ending, sequence}
 use Rattle.st_model.proofs.Steps.{run_is_from}
 use Rattle.st_laws.proofs.Later.{no_step, ended_stopped}
 use Rattle.st_laws.proofs.Quieting.{all_ended, first_stands, AllEnded, run_leads, going_stopped}
-use Rattle.st_laws.proofs.Agreeing.{steps_append, own_step, other_step}
-use Rattle.st_laws.proofs.Beginning.{distinct_within, begun_are_made}
+use Rattle.st_laws.proofs.Agreeing.{steps_append}
+use Rattle.st_laws.proofs.Beginning.{distinct_within, begun_are_made, member_steps}
 use Rattle.st_model.specs.Memory.{Data}
 
 -- ---- no run begins more items than one to a quiet heap
 at_least_one : (n : ℕ) → n ≢ 0 → 1 ≤ n
 at_least_one zero ne = absurd (ne refl)
 at_least_one (suc n) ne = omega arith
-
-member_steps : (p : Path) (qs : List Path) → IsMember p qs → 1 ≤ steps_of p qs
-member_steps p [] m = absurd m
-member_steps p (q ∷ qs) (inl same) = let one = own_step p q qs same in omega arith
-member_steps p (q ∷ qs) (inr m) =
-    let more = member_steps p qs m in
-    elim (decide p q) [
-      | inl same ↦ let one = own_step p q qs same in omega arith
-      | inr ne ↦ let one = other_step p q qs ne in omega arith
-    ]
 
 pub begun_within : BegunWithin
 begun_within program source h a b ps qs ws left numbered run distinct unfinished to quiet whole =

@@ -51,5 +51,5 @@ run_order program source h (p ∷ ps) h' t numbered here a run =
     run_order program source run.0 ps h' one.0 (numbered_after program source h p run.0 numbered run.1) one.1 one.2 run.2
 
 pub bytes_are_in_order : BytesAreInOrder
-bytes_are_in_order program source s ps h first run =
-    run_order program source (first_heap s) ps h _ (first_stands program source s first).1 (put_same [] _ (λ q. None)) record { order = tt; early = tt } run
+bytes_are_in_order program source h r =
+    run_order program source (first_heap r.first) r.steps h _ (first_stands program source r.first r.is_first).1 (put_same [] _ (λ q. None)) record { order = tt; early = tt } r.run

@@ -219,10 +219,12 @@ quiet_from program source s n end qs H numbered st lead wait run quiet =
     (λ h' hstep. quiet_reached program source (first_heap s) (lead.0 ++ t.rest.thread.path ∷ []) qs h' H numbered (run_snoc program source (first_heap s) lead.0 g t.rest.thread.path h' x.1 hstep) run quiet)
 
 pub quiet_gives_end : QuietGivesEnd
-quiet_gives_end program source s n end ps h first is ne wait r quiet =
+quiet_gives_end program source n end h is ne wait r quiet =
+    let s = r.first in
+    let first = r.is_first in
     let stands = first_stands program source s first in
     let lead = run_leads program source n s end ne (sym (run_is_from program source n s first) ∙ is) in
-    quiet_from program source s n end ps h stands.1 stands.0 lead wait r quiet
+    quiet_from program source s n end r.steps h stands.1 stands.0 lead wait r.run quiet
 
 has_end_by : (o : Option OrdEnd) → o ≢ None → (o ≡ Some EndGoing → ⊥) → (end : OrdEnd) × ((end ≢ EndGoing) × (o ≡ Some end))
 has_end_by None some going = absurd (some refl)
@@ -233,13 +235,16 @@ has_end_by (Some (Waits line path out)) some going = (_, (λ e. cc, refl))
 has_end_by (Some (OutLimit out)) some going = (_, (λ e. cc, refl))
 
 pub quiet_has_end : QuietHasEnd
-quiet_has_end program source s ps h first accepted r quiet =
+quiet_has_end program source h r accepted quiet =
+    let s = r.first in
+    let ps = r.steps in
+    let first = r.is_first in
     let stands = first_stands program source s first in
     has_end_by (ordinary_run program source (length ps + 1)) (always_defined program source accepted (length ps + 1))
     (λ e.
     let x = run_going program source (length ps + 1) s (first_heap s) stands.1 stands.0 (sym (run_is_from program source (length ps + 1) s first) ∙ e) in
     let y = sequence program source s x.1.0 (first_heap s) x.0 stands.1 stands.0 x.1.1.1 in
-    let le = no_longer program source (first_heap s) x.0 ps y.0 h stands.1 y.1 r quiet in
+    let le = no_longer program source (first_heap s) x.0 ps y.0 h stands.1 y.1 r.run quiet in
     let size = x.1.1.0 in omega arith)
 
 never_is : (program : Program) (source : Data) (n : ℕ) (end : OrdEnd) → ((line : Line) (path : Path) (out : List ℕ) → ordinary_run program source n ≢ Some (Waits line path out)) → ordinary_run program source n ≡ Some end → IsWait end → ⊥
@@ -250,9 +255,10 @@ never_is program source n (Waits line path out) never is w = never line path out
 never_is program source n (OutLimit out) never is w = w
 
 pub quiet_is_ordinary : QuietIsOrdinary
-quiet_is_ordinary program source s ps h first accepted never r quiet =
-    let x = quiet_has_end program source s ps h first accepted r quiet in
-    (x.0, ((x.1.0, (length ps + 1, x.1.1)), quiet_gives_end program source s (length ps + 1) x.0 ps h first x.1.1 x.1.0 (never_is program source (length ps + 1) x.0 (never (length ps + 1)) x.1.1) r quiet))
+quiet_is_ordinary program source h accepted never r quiet =
+    let x = quiet_has_end program source h r accepted quiet in
+    let n = length r.steps + 1 in
+    (x.0, ((x.1.0, (n, x.1.1)), quiet_gives_end program source n x.0 h x.1.1 x.1.0 (never_is program source n x.0 (never n) x.1.1) r quiet))
 
 -- ---- each path of the ordinary run has ended
 ended_by : (s : Standing) → (IsEvent s → ⊥) → (IsGoing s → ⊥) → (v : ℕ) × (s ≡ Ended v)
@@ -266,16 +272,20 @@ in_there s g p st (inl x) = let y = st.facts.ended p x.0 x.1 in (y.0, y.1)
 in_there s g p st (inr (inl same)) = there_at g.thread s.rest.thread.path p _ same st.here
 in_there s g p st (inr (inr among)) = among_there g _ st.others s.rest.parents _ s.rest.thread.handle s.rest.thread.path p st.below among
 
+one_value : (t u : Thread) (w v : ℕ) → t ≡ u → t.standing ≡ Ended w → u.standing ≡ Ended v → w ≡ v
+one_value t u w v same a b = let values : Ended w ≡ Ended v = sym a ∙ ap (λ k. k.standing) same ∙ b in cc
+
 pub quiet_ran_all : QuietRanAll
-quiet_ran_all program source s t h ps qs p out first r quiet done steps is_in =
+quiet_ran_all program source t h ps p out r quiet done steps is_in =
+    let s = r.first in
     let events = done.0 in
     let going = done.1 in
-    let stands = first_stands program source s first in
+    let stands = first_stands program source s r.is_first in
     let st = stands.0 in
     let numbered = stands.1 in
     let x = sequence program source s t (first_heap s) ps numbered st steps in
     let numbered' = numbered_run program source (first_heap s) ps x.0 numbered x.1 in
-    let more = quiet_reached program source (first_heap s) ps qs x.0 h numbered x.1 r quiet in
+    let more = quiet_reached program source (first_heap s) ps r.steps x.0 h numbered x.1 r.run quiet in
     let there = in_there t x.0 p x.2 is_in in
     let u = run_there program source x.0 more.0 h p there.0 numbered' more.1 there.1 in
     let e = ended_by u.0.standing (events p u.0 u.1) (going p u.0 u.1) in
@@ -283,7 +293,7 @@ quiet_ran_all program source s t h ps qs p out first r quiet done steps is_in =
     let y = x.2.facts.ended p w is in
     let z = stopped_stays program source x.0 more.0 h p y.0 numbered' more.1 y.1 (ended_stopped y.0.standing w y.2) in
     let same : y.0 ≡ u.0 = let c = u.1 in cc in
-    let values : Ended w ≡ Ended e.0 = sym y.2 ∙ ap (λ k. k.standing) same ∙ e.1 in cc in
+    one_value y.0 u.0 w e.0 same y.2 e.1 in
     (e.0, ((u.0, u.1, e.1), value))
 
 -- ---- what hasn't ended in a quiet heap

@@ -1,15 +1,20 @@
--- Items that were begun, and limits. A limit that is less than the number of items begun is one that some run passes: BegunPassStep. What a run to a
--- quiet heap stays within no run passes: BegunWithin and DoneWithin for items, TotalsWithin for the sums of frame_made and cells_drawn.
-use Rattle.std.specs.Prelude.{◌≡◌, ℕ, ◌+◌, ◌<◌, List, length, ◌⊎◌, Some, ◌≤◌}
+-- Items that were begun, and limits. A limit that is less than the number of items begun is one that some run passes: BegunPassStep, and
+-- BegunPassSums for the frame bytes and cells of items that can be made (BegunAdd for any sum). What a run to a quiet heap stays within no run
+-- passes: BegunWithin and DoneWithin for items, TotalsWithin for the sums of frame_made and cells_drawn. The ordinary-call run that is Done is
+-- such a run (DoneIsQuiet), so what its own sums keep no run passes: DoneKeepsLimits.
+use Rattle.std.specs.Prelude.{◌≡◌, ℕ, ◌+◌, ◌<◌, List, [], ◌∷◌, ◌++◌, length, ◌⊎◌, Option, None, Some, ◌≤◌}
+use Rattle.st_base.specs.declared.thread.Activation.{Activation}
 use Rattle.st_model.specs.declared.program.Program.{Program}
 use Rattle.st_model.specs.declared.ordinary.OrdEnd.TheVariants.{Done}
 use Rattle.st_model.specs.declared.ordinary.State.{State}
-use Rattle.st_model.specs.Ordinary.{start, ordinary_run}
-use Rattle.st_model.specs.Heap.{Path, Heap, Run, IsNumbered, steps_of, first_heap}
+use Rattle.st_model.specs.declared.ordinary.Turn.TheVariants.{Over}
+use Rattle.st_model.specs.Ordinary.{start, step, ordinary_run}
+use Rattle.st_model.specs.Heap.{Path, Heap, HStep, Run, IsNumbered, steps_of, first_heap}
 use Rattle.st_model.specs.Memory.{Data}
-use Rattle.st_model.specs.Limits.{AreDistinct, IsMember, PassesStep, PassesStack, PassesCell, frame_made, cells_drawn, IsUnfinished, IsWaiting, total}
+use Rattle.st_model.specs.Limits.{AreDistinct, IsMember, PassesStep, PassesStack, PassesCell, frame_at, drawn_at, frame_made, cells_drawn, IsUnfinished, IsWaiting, total}
 use Rattle.st_base.specs.declared.thread.Thread.{Thread}
 use Rattle.st_model.specs.Quiet.{IsQuiet}
+use Rattle.st_laws.specs.Sequential.{Steps}
 
 -- each thread whose next item was begun makes it in a longer run, or waits at its end; no other thread makes a step
 pub record AreMade (program : Program) (source : Data) (h : Heap) (begun : List Path) : Type 0 where
@@ -49,3 +54,41 @@ TotalsWithin =
 abbrev pub QuietPasses : Type 0
 QuietPasses =
     (program : Program) (source : Data) (h b : Heap) (qs : List Path) (q : Run program source h qs b) (limit : ℕ) → IsNumbered h → IsQuiet program source b → (PassesStack program source h limit → limit < total program source (frame_made program) h qs b q) × (PassesCell program source h limit → limit < 1 + total program source (cells_drawn program) h qs b q)
+
+abbrev pub sum_thread : (Path → Thread → ℕ) → Path → Option Thread → ℕ
+sum_thread of p None = 0
+sum_thread of p (Some t) = of p t
+
+-- the sum over the next items of these threads
+abbrev pub sum_next : (Path → Thread → ℕ) → Heap → List Path → ℕ
+sum_next of h [] = 0
+sum_next of h (p ∷ ps) = sum_thread of p (h.thread p) + sum_next of h ps
+
+-- each of these threads has a step
+abbrev pub HaveSteps : Program → Data → Heap → List Path → Type 0
+HaveSteps program source h begun = (p : Path) → IsMember p begun → (g : Heap) × HStep program source h p g
+
+-- items that were begun by threads that have a step add to each sum of some longer run
+abbrev pub BegunAdd : Type 0
+BegunAdd =
+    (program : Program) (source : Data) (of : Path → Thread → ℕ) (h h' : Heap) (ps begun : List Path) (run : Run program source h ps h') → IsNumbered h → AreDistinct begun → HaveSteps program source h' begun → (more : List Path) × ((g : Heap) × ((longer : Run program source h more g) × (total program source of h ps h' run + sum_next of h' begun ≤ total program source of h more g longer)))
+
+-- a limit of frame bytes or of cells that is less than a run's sum with those of items begun at its end is one that some run passes
+abbrev pub BegunPassSums : Type 0
+BegunPassSums =
+    (program : Program) (source : Data) (h h' : Heap) (ps begun : List Path) (run : Run program source h ps h') (limit : ℕ) → IsNumbered h → AreDistinct begun → HaveSteps program source h' begun → (limit < total program source (frame_made program) h ps h' run + sum_next (frame_made program) h' begun → PassesStack program source h limit) × (limit < 1 + total program source (cells_drawn program) h ps h' run + sum_next (cells_drawn program) h' begun → PassesCell program source h limit)
+
+-- an ordinary run that is Done at the state t is itself a run to a quiet heap
+abbrev pub DoneIsQuiet : Type 0
+DoneIsQuiet =
+    (program : Program) (source : Data) (s t : State) (ps : List Path) (out : List ℕ) → start program source ≡ Some s → Steps program source s ps t → step program source t ≡ Over (Done out) → (h : Heap) × (Run program source (first_heap s) (ps ++ t.rest.thread.path ∷ []) h × IsQuiet program source h)
+
+-- a sum over the steps of the ordinary run, of a number that the newest activation of each gives
+abbrev pub ordinary_sum : (program : Program) (source : Data) → (List Activation → ℕ) → (s : State) (ps : List Path) (t : State) → Steps program source s ps t → ℕ
+ordinary_sum program source of s [] t steps = 0
+ordinary_sum program source of s (p ∷ ps) t steps = of (s.top ∷ []) + ordinary_sum program source of steps.1.0 ps t steps.1.2
+
+-- where the ordinary run is Done at the state t, no run passes a limit of frame bytes or of cells that its own sums keep
+abbrev pub DoneKeepsLimits : Type 0
+DoneKeepsLimits =
+    (program : Program) (source : Data) (s t : State) (ps : List Path) (out : List ℕ) (steps : Steps program source s ps t) (limit : ℕ) → start program source ≡ Some s → step program source t ≡ Over (Done out) → (PassesStack program source (first_heap s) limit → limit < ordinary_sum program source (frame_at program) s ps t steps + frame_at program (t.top ∷ [])) × (PassesCell program source (first_heap s) limit → limit < 1 + ordinary_sum program source (drawn_at program) s ps t steps + drawn_at program (t.top ∷ []))

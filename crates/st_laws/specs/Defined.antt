@@ -7,12 +7,11 @@ use Rattle.st_base.specs.declared.thread.Thread.{Thread}
 use Rattle.st_model.specs.declared.program.Item.{Item}
 use Rattle.st_model.specs.declared.program.Program.{Program}
 use Rattle.st_model.specs.declared.effect.Effect.TheVariants.{Undefined}
-use Rattle.st_model.specs.declared.ordinary.State.{State}
 use Rattle.st_model.specs.Memory.{Data}
 use Rattle.st_model.specs.Effect.{item_effect}
-use Rattle.st_model.specs.Ordinary.{item_at, start}
+use Rattle.st_model.specs.Ordinary.{item_at}
 use Rattle.st_model.specs.Accepted.{IsAccepted}
-use Rattle.st_model.specs.Heap.{Heap, Path, Run, first_heap}
+use Rattle.st_model.specs.Heap.{Heap, Path, Reached}
 
 -- the thread's newest activation is at an item whose effect is defined
 abbrev pub HasNext : Program → Data → Thread → Type 0
@@ -22,4 +21,4 @@ HasNext program source t =
 -- in every run of the heap-frame machine of an accepted program each thread that has not stopped has a next item whose effect is defined
 abbrev pub HeapDefined : Type 0
 HeapDefined =
-    (program : Program) (source : Data) (s : State) (ps : List Path) (h : Heap) (p : Path) (t : Thread) → IsAccepted program → start program source ≡ Some s → Run program source (first_heap s) ps h → h.thread p ≡ Some t → t.standing ≡ Going → HasNext program source t
+    (program : Program) (source : Data) (h : Heap) (p : Path) (t : Thread) → IsAccepted program → Reached program source h → h.thread p ≡ Some t → t.standing ≡ Going → HasNext program source t

@@ -5,3 +5,5 @@ pub mod QuietEnd
 pub mod Begun
 pub mod Names
 pub mod Defined
+pub mod Changes
+pub mod Stays

@@ -8,7 +8,7 @@ use Rattle.st_model.specs.declared.program.Program.{Program}
 use Rattle.st_model.specs.declared.ordinary.State.{State}
 use Rattle.st_model.specs.Ordinary.{value_of, start}
 use Rattle.st_base.specs.declared.thread.Thread.{Thread}
-use Rattle.st_model.specs.Heap.{Path, Heap, Run, first_heap}
+use Rattle.st_model.specs.Heap.{Path, Heap, Reached}
 use Rattle.st_laws.specs.Sequential.{Steps}
 use Rattle.st_model.specs.Memory.{Data}
 
@@ -63,6 +63,6 @@ pub record NamesStand (h : Heap) : Type 0 where
   pub activations : (p : Path) (t : Thread) → h.thread p ≡ Some t → AllKnowNames (IsThread h) (IsMade h) t.activations
   pub counts : (p : Path) (n : ℕ) → h.count p n ≢ 0 → IsMade h p n
 
--- in each heap that a run reaches the names that threads hold are of threads and counters that are there
+-- in each reached heap the names that threads hold are of threads and counters that are there
 abbrev pub NamesAreThere : Type 0
-NamesAreThere = (program : Program) (source : Data) (s : State) (ps : List Path) (h : Heap) → start program source ≡ Some s → Run program source (first_heap s) ps h → NamesStand h
+NamesAreThere = (program : Program) (source : Data) (h : Heap) → Reached program source h → NamesStand h

@@ -5,9 +5,9 @@ use Rattle.st_model.specs.declared.program.Program.{Program}
 use Rattle.st_model.specs.declared.ordinary.State.{State}
 use Rattle.st_model.specs.declared.ordinary.OrdEnd.{OrdEnd}
 use Rattle.st_model.specs.declared.ordinary.OrdEnd.TheVariants.{Going as EndGoing, Done as EndDone, Trap as EndTrap, Waits as EndWaits, OutLimit as EndOutLimit}
-use Rattle.st_model.specs.Ordinary.{value_of, start, ordinary_run, EndsWith, step, NeverWaits}
+use Rattle.st_model.specs.Ordinary.{value_of, ordinary_run, EndsWith, step, NeverWaits}
 use Rattle.st_laws.specs.Sequential.{Steps, IsIn, Stands}
-use Rattle.st_model.specs.Heap.{first_heap, Heap, Path, HasEnded, Run, IsNumbered}
+use Rattle.st_model.specs.Heap.{Heap, Path, HasEnded, Run, IsNumbered, Reached}
 use Rattle.st_laws.specs.Agreement.{IsWait, IsAfter}
 use Rattle.st_model.specs.Quiet.{Done, Trap, OutLimit, IsQuiet, IsGoing, IsAnswer, QuietAnswer}
 use Rattle.st_model.specs.Memory.{Data}
@@ -28,22 +28,22 @@ IsEnd program h (EndOutLimit out) = IsAnswer program h OutLimit out
 -- a quiet heap gives the end of an ordinary run that doesn't end by waiting
 abbrev pub QuietGivesEnd : Type 0
 QuietGivesEnd =
-    (program : Program) (source : Data) (s : State) (n : ℕ) (end : OrdEnd) (ps : List Path) (h : Heap) → start program source ≡ Some s → ordinary_run program source n ≡ Some end → end ≢ EndGoing → (IsWait end → ⊥) → Run program source (first_heap s) ps h → IsQuiet program source h → IsEnd program h end
+    (program : Program) (source : Data) (n : ℕ) (end : OrdEnd) (h : Heap) → ordinary_run program source n ≡ Some end → end ≢ EndGoing → (IsWait end → ⊥) → Reached program source h → IsQuiet program source h → IsEnd program h end
 
 -- where there is a quiet heap, the ordinary run of an accepted program has an end, after no more steps than the quiet heap's run and one
 abbrev pub QuietHasEnd : Type 0
 QuietHasEnd =
-    (program : Program) (source : Data) (s : State) (ps : List Path) (h : Heap) → start program source ≡ Some s → IsAccepted program → Run program source (first_heap s) ps h → IsQuiet program source h → (end : OrdEnd) × ((end ≢ EndGoing) × (ordinary_run program source (length ps + 1) ≡ Some end))
+    (program : Program) (source : Data) (h : Heap) (r : Reached program source h) → IsAccepted program → IsQuiet program source h → (end : OrdEnd) × ((end ≢ EndGoing) × (ordinary_run program source (length r.steps + 1) ≡ Some end))
 
 -- where the ordinary run of an accepted program never waits, a quiet heap gives its end
 abbrev pub QuietIsOrdinary : Type 0
 QuietIsOrdinary =
-    (program : Program) (source : Data) (s : State) (ps : List Path) (h : Heap) → start program source ≡ Some s → IsAccepted program → NeverWaits program source → Run program source (first_heap s) ps h → IsQuiet program source h → (end : OrdEnd) × (EndsWith program source end × IsEnd program h end)
+    (program : Program) (source : Data) (h : Heap) → IsAccepted program → NeverWaits program source → Reached program source h → IsQuiet program source h → (end : OrdEnd) × (EndsWith program source end × IsEnd program h end)
 
 -- where the answer is Done, each path of the ordinary run has ended, with the value that the ordinary run gives it
 abbrev pub QuietRanAll : Type 0
 QuietRanAll =
-    (program : Program) (source : Data) (s t : State) (h : Heap) (ps qs : List Path) (p : Path) (out : List ℕ) → start program source ≡ Some s → Run program source (first_heap s) qs h → IsQuiet program source h → IsAnswer program h Done out → Steps program source s ps t → IsIn t.rest p → (v : ℕ) × (HasEnded h p v × ((w : ℕ) → value_of t.rest.ended p ≡ Some w → w ≡ v))
+    (program : Program) (source : Data) (t : State) (h : Heap) (ps : List Path) (p : Path) (out : List ℕ) (r : Reached program source h) → IsQuiet program source h → IsAnswer program h Done out → Steps program source r.first ps t → IsIn t.rest p → (v : ℕ) × (HasEnded h p v × ((w : ℕ) → value_of t.rest.ended p ≡ Some w → w ≡ v))
 
 -- in a quiet heap what hasn't ended is after the end of an ordinary run that doesn't end by waiting
 abbrev pub UnfinishedIsAfter : Type 0
@@ -59,9 +59,9 @@ pub record AreThreads (h : Heap) (ts : List Path) : Type 0 where
 -- where the ordinary run is Done at the state t, a quiet heap has just its threads: those that have ended before, and the root
 abbrev pub ThreadsAreCounted : Type 0
 ThreadsAreCounted =
-    (program : Program) (source : Data) (s t : State) (ps qs : List Path) (out : List ℕ) (h : Heap) → start program source ≡ Some s → Steps program source s ps t → step program source t ≡ Over (EndDone out) → Run program source (first_heap s) qs h → IsQuiet program source h → AreThreads h (t.rest.thread.path ∷ map (λ e. e.path) t.rest.ended)
+    (program : Program) (source : Data) (t : State) (ps : List Path) (out : List ℕ) (h : Heap) (r : Reached program source h) → Steps program source r.first ps t → step program source t ≡ Over (EndDone out) → IsQuiet program source h → AreThreads h (t.rest.thread.path ∷ map (λ e. e.path) t.rest.ended)
 
 -- each heap that a run of an accepted program reaches has an answer
 abbrev pub HasAnswer : Type 0
 HasAnswer =
-    (program : Program) (source : Data) (s : State) (ps : List Path) (h : Heap) → start program source ≡ Some s → IsAccepted program → Run program source (first_heap s) ps h → (answer : QuietAnswer) × ((out : List ℕ) × IsAnswer program h answer out)
+    (program : Program) (source : Data) (h : Heap) → IsAccepted program → Reached program source h → (answer : QuietAnswer) × ((out : List ℕ) × IsAnswer program h answer out)

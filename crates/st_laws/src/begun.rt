@@ -1,6 +1,6 @@
 //! Items that are begun, and the limits that runs pass.
 
-ghost use Rattle.st_laws.specs.Begun.{BegunAreMade, BegunPassStep, BegunWithin, DoneWithin, QuietPasses, TotalsWithin};
+ghost use Rattle.st_laws.specs.Begun.{BegunAdd, BegunAreMade, BegunPassStep, BegunPassSums, BegunWithin, DoneIsQuiet, DoneKeepsLimits, DoneWithin, QuietPasses, TotalsWithin};
 
 /// Items that are begun are made in a longer run, or wait at its end.
 pub fn begun_are_made()
@@ -30,4 +30,24 @@ pub fn quiet_passes()
 /// No sum over the steps of a run, of items, frame bytes or cells, is greater than that of a run to a quiet heap.
 pub fn totals_within()
     ensures { TotalsWithin }
+{}
+
+/// Items that were begun by threads that have a step add to each sum of some longer run.
+pub fn begun_add()
+    ensures { BegunAdd }
+{}
+
+/// Where the frame bytes or the cells of a run and of the items begun at its end are more than a limit, some run passes the limit.
+pub fn begun_pass_sums()
+    ensures { BegunPassSums }
+{}
+
+/// An ordinary-call run that is Done is itself a run to a quiet heap.
+pub fn done_is_quiet()
+    ensures { DoneIsQuiet }
+{}
+
+/// Where the ordinary-call run is Done, no run passes a limit of frame bytes or of cells that its own sums keep.
+pub fn done_keeps_limits()
+    ensures { DoneKeepsLimits }
 {}

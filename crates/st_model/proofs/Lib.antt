@@ -12,3 +12,4 @@ pub mod ItemFlow
 pub mod StartFlow
 pub mod RunFlow
 pub mod Counted
+pub mod CodeSize

@@ -1,6 +1,7 @@
 -- The heap-frame machine: each thread has its own activations and registers, and any thread that can may make the next step. Heap is a
--- state, first_heap the one at the start of a run, HStep one item of one thread, Run a list of steps by the threads that make them.
--- move is what a thread would do next as it alone sees it, Enabled whether that can be done now, and after what it makes of the heap.
+-- state, first_heap the one at the start of a run, HStep one item of one thread, Run a list of steps by the threads that make them, and
+-- Reached a run of a program from its start. move is what a thread would do next as it alone sees it, Enabled whether that can be done now,
+-- EnabledBy whether it can by values and counts that were seen, and after what it makes of the heap.
 use Rattle.std.specs.Prelude.{ℕ, ◌≡◌, ◌≤◌, ◌+◌, Bool, true, false, cond, nat_lt, ◌==◌, ◌&&◌, List, [], ◌∷◌, ◌++◌, Option, Some, None}
 use Rattle.std.specs.Str.{bytes_eq}
 use Rattle.st_base.specs.declared.reg.Reg.TheVariants.{A0, A6}
@@ -22,7 +23,7 @@ use Rattle.st_model.specs.declared.effect.Effect.{Effect}
 use Rattle.st_model.specs.declared.effect.Effect.TheVariants.{Undefined, Goes, Calls, Returns, Ends, Traps, Prints, Forks, Touches, Counts, Adds, Joins}
 use Rattle.st_model.specs.Memory.{Data}
 use Rattle.st_model.specs.Effect.{File, item_effect}
-use Rattle.st_model.specs.Ordinary.{item_at, is_root, counted}
+use Rattle.st_model.specs.Ordinary.{item_at, is_root, counted, start}
 
 -- the name of a thread
 abbrev pub Path : Type 0
@@ -131,6 +132,13 @@ Enabled h (Moves d) c = d ≡ c
 Enabled h (Touch p f) c = (v : ℕ) × HasEnded h p v × (f v ≡ c)
 Enabled h (Join p n least d) c = (least ≤ h.count p n) × (d ≡ c)
 
+-- the move makes this change by what was seen: the value of the future that it touches, a count that is enough for its join
+abbrev pub EnabledBy : (Path → Option ℕ) → (Path → ℕ → ℕ) → Move → Change → Type 0
+EnabledBy value count Stays c = ⊥
+EnabledBy value count (Moves d) c = d ≡ c
+EnabledBy value count (Touch p f) c = (v : ℕ) × (value p ≡ Some v) × (f v ≡ c)
+EnabledBy value count (Join p n least d) c = (least ≤ count p n) × (d ≡ c)
+
 abbrev pub put : {A : Type 0} → Path → A → (Path → A) → Path → A
 put p a f q = cond (bytes_eq q p) a (f q)
 
@@ -181,3 +189,10 @@ steps_of p (q ∷ qs) = cond (bytes_eq p q) (steps_of p qs + 1) (steps_of p qs)
 -- the root alone, at its first item
 abbrev pub first_heap : State → Heap
 first_heap s = record { thread = put [] (Some (new_thread s.top s.registers)) (λ p. None); count = λ p k. 0; out = [] }
+
+-- a run of the program leads to the heap, from the root alone at its first item
+pub record Reached (program : Program) (source : Data) (h : Heap) : Type 0 where
+  pub first : State
+  pub is_first : start program source ≡ Some first
+  pub steps : List Path
+  pub run : Run program source (first_heap first) steps h

@@ -1,11 +1,12 @@
 -- The code of a program in memory, in two layouts: postprocessed, where each epilogue is augmented and a pure copy of it stands at the end
 -- of each function, and unchanged, where epilogues are as written. Functions stand in order from 0x10000. Read function_words (the words of
 -- a function), rows_of and forks_of (what the runtime knows of them), far_branch (the first branch that doesn't reach, which is decided on
--- the postprocessed layout), HasSize (what bounds the code) and IsImageOf (an image of a program).
+-- the postprocessed layout), HasSize (what bounds the code) and IsImageOf (an image of a program). IsCodeOf says that an image is
+-- the code of an accepted program in a layout: what a run asks of its image.
 --   augmented epilogue: addi tp,s0,0; ld ra,-8(tp); ld of each saved register, ascending, from -24(tp) down by 8; ld s0,-16(tp);
 --     bgeu sp,tp,keep; bltu gp,tp,keep; addi sp,tp,0; jalr zero,0(ra); keep: sd zero,-8(tp); jalr zero,0(ra)
 --   pure copy: its first addi, the same loads, jalr zero,0(ra)
-use Rattle.std.specs.Prelude.{◌≡◌, ℕ, zero, suc, ◌+◌, ◌*◌, ◌/◌, ◌%◌, ◌^◌, ◌≤◌, ℤ, pos, neg_ℤ, ◌-ℤ◌, ◌≤ℤ◌, ◌<ℤ◌, int_lt, Bool, true, false, not, ◌&&◌, ◌||◌, ◌==◌, List, [], ◌∷◌, ◌++◌, map, length, take, Option, Some, None, slice_get, if◌then◌else◌}
+use Rattle.std.specs.Prelude.{◌≡◌, ℕ, ◌+◌, ◌*◌, ◌/◌, ◌%◌, ◌^◌, ◌≤◌, ℤ, pos, neg_ℤ, ◌-ℤ◌, ◌≤ℤ◌, ◌<ℤ◌, int_lt, Bool, true, false, not, ◌&&◌, ◌==◌, List, [], ◌∷◌, ◌++◌, map, length, take, Option, Some, None, slice_get, if◌then◌else◌}
 use Rattle.std.specs.Int.{bit_at}
 use Rattle.st_base.specs.declared.line.Line.{Line}
 use Rattle.st_base.specs.declared.reg.Reg.{Reg}
@@ -29,6 +30,7 @@ use Rattle.st_model.specs.declared.code.Layout.TheVariants.{Postprocessed, Uncha
 use Rattle.st_model.specs.declared.code.PostedIns.{PostedIns}
 use Rattle.st_model.specs.declared.code.PostedIns.TheVariants as posted
 use Rattle.st_model.specs.declared.code.PostedWord.{PostedWord}
+use Rattle.st_model.specs.Accepted.{IsAccepted}
 
 -- ---- instructions
 
@@ -372,3 +374,11 @@ HasWordValue _ = Unit {0}
 pub record HasSize (p : Program) : Type 0 where
   pub lines : functions_lines p.functions ≤ 65536
   pub values : (f i : ℕ) (function : ProgramFunction) (item : Item) → slice_get p.functions f ≡ Some function → slice_get function.items i ≡ Some item → HasWordValue item.kind
+
+-- ---- images that are run
+
+-- the image is the code of an accepted program in a layout, with the read-only data that it holds
+pub record IsCodeOf (layout : Layout) (p : Program) (image : Image) : Type 0 where
+  pub accepted : IsAccepted p
+  pub size : HasSize p
+  pub is_image : IsImageOf layout p image.rodata image

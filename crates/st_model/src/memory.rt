@@ -3,11 +3,7 @@ ghost use Rattle.std.specs.Prelude.{◌≡◌, ◌<◌, ◌≤◌, ◌+◌, ◌^
 ghost use Rattle.st_model.specs.Memory.{region, data_of, data_byte, slot_byte, load_from};
 
 use st_base::lists::Cells;
-
-/// Where the read-only data stand.
-const RODATA_BASE: u128 = 0x2000_0000;
-/// Where the input stands.
-const INPUT_BASE: u128 = 0x4000_0000;
+use st_base::map::{DATA_START, INPUT_START};
 
 /// The byte at an address of a stretch of memory that begins at the base.
 fn region(bytes: &[u8], base: u128, at: u128) -> Option<u8>
@@ -27,9 +23,9 @@ fn data_byte(rodata: &[u8], input: &[u8], at: u128) -> Option<u8>
     requires { at < 2 ^ 64 + 16 }
     ensures { result ≡ data_byte (data_of rodata.now input.now) at }
 {
-    match region(rodata, RODATA_BASE, at) {
+    match region(rodata, u128::from(DATA_START), at) {
         Some(byte) => Some(byte),
-        None => region(input, INPUT_BASE, at),
+        None => region(input, u128::from(INPUT_START), at),
     }
 }
 

@@ -10,6 +10,7 @@ use crate::effect::{Effect, entered, item_effect};
 use crate::program::{Item, Program};
 use st_base::line::Line;
 use st_base::lists::{Listed, Stack};
+use st_base::map::MOST_PRINTED;
 use st_base::path::{Bytes, Path};
 use st_base::reg::Reg;
 use st_base::registers::{Pick, Registers};
@@ -157,7 +158,7 @@ fn printed(
     if !rest.thread.path.is_root() {
         return Ok(trapped(rest, TrapKind::PutInChild, line));
     }
-    if rest.out.len() >= 1_048_576 {
+    if rest.out.len() >= MOST_PRINTED {
         return Ok(Turn::Over(OrdEnd::OutLimit { out: rest.out }));
     }
     let mut rest = rest;
@@ -224,47 +225,18 @@ fn forked(
     Ok(goes(child, passed, rest))
 }
 
-/// Whether the first thread ends before the second: after all that it forks, and before what is forked after it.
-fn ends_before(a: &[u32], b: &[u32]) -> bool {
-    for (x, y) in a.iter().zip(b) {
-        if x != y {
-            return x < y;
-        }
-    }
-    a.len() > b.len()
-}
-
-/// Where the thread of a path stands, if it has ended.
-fn place_of(ended: &[Ended], path: &Path) -> usize {
-    let mut low = 0;
-    let mut high = ended.len();
-    while low < high {
-        let middle = low + (high - low) / 2;
-        if ends_before(ended[middle].path.numbers(), path.numbers()) {
-            low = middle + 1;
-        } else {
-            high = middle;
-        }
-    }
-    low
-}
-
-/// The value of the thread of a path, if it has ended.
-#[tactic(auto, using(crate::proofs::Lookup::value_of_next))]
+/// The value of the thread of a path, if it has ended. Those that ended last are looked at first: a thread is mostly touched
+/// soon after its end.
 fn value_of(ended: &[Ended], path: &Path) -> Option<u64>
     requires { Distinct ended.now }
     ensures { result ≡ value_of ended.now path.now }
 {
-    let place = place_of(ended, path);
-    if place < ended.len() {
-        let found = &ended[place];
+    let mut left = ended.len();
+    while left > 0 {
+        left -= 1;
+        let found = &ended[left];
         if found.path.is(path) {
             return Some(found.value);
-        }
-    }
-    for thread in ended {
-        if thread.path.is(path) {
-            return Some(thread.value);
         }
     }
     None
@@ -580,7 +552,7 @@ pub fn ordinary(
     input: &[u8],
     steps: u64,
 ) -> Result<OrdEnd, AllocError>
-    requires accepted { IsAccepted program.now }
+    requires accepted { ∥ IsAccepted program.now ∥₁ }
     requires steps { steps ≤ 2 ^ 32 }
     requires rodata { length rodata.now ≤ 1048576 }
     requires input { length input.now ≤ 16777216 }

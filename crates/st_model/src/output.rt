@@ -26,7 +26,7 @@ pub fn counts(printed: Printed, path: &Path) -> bool
 
 /// How many of the root's bytes count where the thread of this path has the event. As the root's forks don't fall from
 /// one byte to the next, they are the first so many.
-pub fn counted(out: &[Printed], path: &Path) -> usize
+pub fn bytes_that_count(out: &[Printed], path: &Path) -> usize
     ensures many { (forks : ℕ) → result ≡ length (counted_bytes path.now (event_key path.now forks) out.now) }
     ensures first { AreInOrder out.now → (forks : ℕ) → counted_bytes path.now (event_key path.now forks) out.now ≡ take result (bytes_of out.now) }
 {

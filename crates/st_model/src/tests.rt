@@ -1,6 +1,6 @@
 //! Edges of single items, keys and counted bytes, with values from the rules and from the RISC-V manual.
 use crate::effect::{Effect, item_effect};
-use crate::output::{Printed, counted, counts};
+use crate::output::{Printed, bytes_that_count, counts};
 use crate::program::{ItemKind, Program};
 use st_base::key::key_cmp;
 use st_base::lists::{Cells, Listed};
@@ -154,7 +154,7 @@ const STRETCHES: [u64; 6] = [
 ];
 
 #[test]
-fn loads_at_the_ends_of_the_data(rt: HostRuntime) -> Result<(), Fail> {
+fn loads_and_constants_at_the_ends_of_their_ranges(rt: HostRuntime) -> Result<(), Fail> {
     for (op, address, want) in ALIGNED {
         let load = plain(op, Reg::A1, -1);
         let got = run_item(rt.alloc(), load, address.wrapping_add(1), &RODATA, &INPUT)?;
@@ -174,11 +174,6 @@ fn loads_at_the_ends_of_the_data(rt: HostRuntime) -> Result<(), Fail> {
             }
         }
     }
-    Ok(())
-}
-
-#[test]
-fn constants_at_the_ends_of_their_ranges(rt: HostRuntime) -> Result<(), Fail> {
     let li = [
         (-0x8000_0000, 0xffff_ffff_8000_0000),
         (-2049, 0xffff_ffff_ffff_f7ff),
@@ -223,10 +218,10 @@ fn keys_and_the_bytes_before_them(rt: HostRuntime) -> Result<(), Fail> {
         Printed { byte: 66, forks: 1 },
         Printed { byte: 67, forks: 2 },
     ];
-    assert_eq!(rt; counted(&out, &root), 3);
-    assert_eq!(rt; counted(&out, &first), 1);
-    assert_eq!(rt; counted(&out, &second), 2);
-    assert_eq!(rt; counted(&out, &inner), 2);
+    assert_eq!(rt; bytes_that_count(&out, &root), 3);
+    assert_eq!(rt; bytes_that_count(&out, &first), 1);
+    assert_eq!(rt; bytes_that_count(&out, &second), 2);
+    assert_eq!(rt; bytes_that_count(&out, &inner), 2);
     assert!(rt; !counts(out[1], &first));
     Ok(())
 }

@@ -302,24 +302,3 @@ fn loads_from_data(rt: HostRuntime) -> Result<(), Fail> {
     }
     Ok(())
 }
-
-/// Threads that have ended stand in the order of their ends, where the search halves its way to each.
-#[test]
-fn finds_the_place_of_each_thread(rt: HostRuntime) -> Result<(), Fail> {
-    let alloc = rt.alloc();
-    let root = Path::root(alloc);
-    let first = root.child(alloc, 0)?;
-    let within = first.child(alloc, 0)?;
-    let later = root.child(alloc, 1)?;
-    let mut ended = Listed::new(alloc);
-    for path in [&within, &first, &later] {
-        ended.push(Ended {
-            path: path.copy(alloc)?,
-            value: 0,
-        })?;
-    }
-    assert_eq!(rt; place_of(ended.as_slice(), &within), 0);
-    assert_eq!(rt; place_of(ended.as_slice(), &first), 1);
-    assert_eq!(rt; place_of(ended.as_slice(), &later), 2);
-    Ok(())
-}

@@ -2,7 +2,7 @@ use Rattle.std.proofs.Common.{◌≡◌, ◌≤◌, ℕ, take}
 use Rattle.std.specs.List.{count_by}
 use Rattle.st_base.specs.EventKey.{event_key}
 use Rattle.st_model.specs.Quiet.{counts}
-use Rattle.st_model.proofs.output.counted.Given as goal
+use Rattle.st_model.proofs.output.bytes_that_count.Given as goal
 
 -- so many of the bytes behind it count
 abbrev pub invariant-loop-printed : goal.invariant-loop-printed

@@ -5,8 +5,8 @@ use Rattle.std.proofs.lemmas.List.Sums.{count_by_more_no, count_by_more_yes}
 use Rattle.st_base.specs.EventKey.{event_key}
 use Rattle.st_model.specs.Quiet.{counts}
 use Rattle.st_model.proofs.Counted.{counted-many, counted-first}
-use Rattle.st_model.proofs.output.counted.Goals as goal
-use Rattle.st_model.proofs.output.counted.Goals.{then-counts, else-counts}
+use Rattle.st_model.proofs.output.bytes_that_count.Goals as goal
+use Rattle.st_model.proofs.output.bytes_that_count.Goals.{then-counts, else-counts}
 
 pub overflow_add-count : goal.overflow_add-count
 overflow_add-count c = omega arith

@@ -1,0 +1,5 @@
+use Rattle.st_laws.proofs.Adding as adding
+use Rattle.st_laws.proofs.begun.begun_pass_sums.Goals as goal
+
+pub returns : goal.returns
+returns c = adding.begun_pass_sums

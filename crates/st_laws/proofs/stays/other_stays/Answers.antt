@@ -1,0 +1,5 @@
+use Rattle.st_laws.proofs.Staying as staying
+use Rattle.st_laws.proofs.stays.other_stays.Goals as goal
+
+pub returns : goal.returns
+returns c = staying.other_stays
