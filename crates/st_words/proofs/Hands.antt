@@ -52,10 +52,10 @@ leaves u c h k =
     not_without c u.hand x.0 x.1 x.2
 
 -- what a change that finds what it compared with does, by what the cell is taken for
-future_hand : (u : View) (c old new : ℕ) (b : Bool) → TakesForFuture u c → (new == full_word) ≡ b → (cell_changed (old == old) c old new old u).hand ≡ (changed_future c old new b u).hand
+pub future_hand : (u : View) (c old new : ℕ) (b : Bool) → TakesForFuture u c → (new == full_word) ≡ b → (cell_changed (old == old) c old new old u).hand ≡ (changed_future c old new b u).hand
 future_hand u c old new b f e = ap (λ (t : Bool). (cell_changed t c old new old u).hand) (eq-eqb old old refl) ∙ ap (λ (t : Bool). (changed_by t c old new u).hand) f ∙ ap (λ (t : Bool). (changed_future c old new t u).hand) e
 
-counter_hand : (u : View) (c old new : ℕ) (b : Bool) → TakesForCounter u c → (head_in new == 0) ≡ b → (cell_changed (old == old) c old new old u).hand ≡ (changed_counter c old new b u).hand
+pub counter_hand : (u : View) (c old new : ℕ) (b : Bool) → TakesForCounter u c → (head_in new == 0) ≡ b → (cell_changed (old == old) c old new old u).hand ≡ (changed_counter c old new b u).hand
 counter_hand u c old new b f e = ap (λ (t : Bool). (cell_changed t c old new old u).hand) (eq-eqb old old refl) ∙ ap (λ (t : Bool). (changed_by t c old new u).hand) f ∙ ap (λ (t : Bool). (changed_counter c old new t u).hand) e
 
 abbrev HandHas : List Waiter → ℕ → Type 0

@@ -6,14 +6,15 @@ use native.Mathlib.Decide.{ℕ_discrete}
 use Rattle.st_base.specs.declared.chain.Chain.{Chain}
 use Rattle.st_base.specs.declared.chain.Frame.{Frame}
 use Rattle.st_words.specs.declared.view.Slot.{Slot}
-use Rattle.st_words.specs.declared.view.Load.{Load}
+use Rattle.st_words.specs.declared.view.Cargo.{Cargo}
 use Rattle.st_words.specs.declared.view.View.{View}
 use Rattle.st_words.specs.Steps.{StackStore, Mark, Look, SlotTake, Done, Looked, Took, return_place, place_of, home_of, Inside, kept, Holds, IsLeased}
 use Rattle.st_words.specs.Views.{view_after}
-use Rattle.st_words.specs.Promises.{Promises}
-use Rattle.st_words.specs.Careful.{MayCarry, KnowsNames}
+use Rattle.st_words.specs.Promises.{Promises, ComesWhole}
+use Rattle.st_words.specs.Careful.{MayCarry}
+use Rattle.st_words.specs.Names.{KnowsNames}
 use Rattle.st_words.specs.Laws.{AreApart, HasFrames, taking, putting}
-use Rattle.st_words.specs.Leased.{KeepsLeased, ComesWhole, LeasedLaws}
+use Rattle.st_words.specs.Leased.{KeepsLeased, LeasedLaws}
 use Rattle.st_words.proofs.Lists.{inside_case}
 use Rattle.st_words.proofs.Naming.{size_laws, store_laws}
 use Rattle.st_words.proofs.Returning.{apart_each}
@@ -69,103 +70,110 @@ mark u f r l = keeps u (view_after u (Mark (return_place f)) Done) (λ g m. subs
 
 -- ---- looks
 
-look_holds : (u : View) (f : Frame) (load : Load) (p : ℕ) → KeepsLeased u → Contains u.exported f → return_place f < length u.held → Promises u (Look (return_place f)) (Looked 0 load) → Holds u p → Holds (view_after u (Look (return_place f)) (Looked 0 load)) p
-look_holds u f load p r m l told h = ⊎_elim
-    (λ (i : Inside f p). let word = look_laws.takes_back u f load p (apart_each u r.apart) m l told i in (word.0, word.2))
-    (λ (n : Inside f p → ⊥). (h.0, look_laws.others u f load p (apart_each u r.apart) m n ∙ h.1)) (inside_case f p)
+look_holds : (u : View) (f : Frame) (cargo : Cargo) (p : ℕ) → KeepsLeased u → Contains u.exported f → return_place f < length u.held → Promises u (Look (return_place f)) (Looked 0 cargo) → Holds u p → Holds (view_after u (Look (return_place f)) (Looked 0 cargo)) p
+look_holds u f cargo p r m l told h = ⊎_elim
+    (λ (i : Inside f p). let word = look_laws.takes_back u f cargo p (apart_each u r.apart) m l told i in (word.0, word.2))
+    (λ (n : Inside f p → ⊥). (h.0, look_laws.others u f cargo p (apart_each u r.apart) m n ∙ h.1)) (inside_case f p)
 
-look_by : (u : View) (f : Frame) (n : ℕ) (load : Load) → KeepsLeased u → ((g : Frame) (p : ℕ) → Contains u.away g → Inside g p → Holds (view_after u (Look (return_place f)) (Looked n load)) p) → KeepsLeased (view_after u (Look (return_place f)) (Looked n load))
-look_by u f n load r holds =
+look_by : (u : View) (f : Frame) (n : ℕ) (cargo : Cargo) → KeepsLeased u → ((g : Frame) (p : ℕ) → Contains u.away g → Inside g p → Holds (view_after u (Look (return_place f)) (Looked n cargo)) p) → KeepsLeased (view_after u (Look (return_place f)) (Looked n cargo))
+look_by u f n cargo r holds =
     let at : ℕ = return_place f in
-    let away : (view_after u (Look at) (Looked n load)).away ≡ u.away = look_laws.away u at n load in
-    keeps u (view_after u (Look at) (Looked n load)) (λ g m. look_laws.were u at n load g m) (λ g m. subst (λ (fs : List Frame). Contains fs g) away m)
-    (λ g p m i. holds g p (subst (λ (fs : List Frame). Contains fs g) away m) i) (size_laws.each u (Look at) (Looked n load)) (size_laws.number u (Look at) (Looked n load)) r
+    let away : (view_after u (Look at) (Looked n cargo)).away ≡ u.away = look_laws.away u at n cargo in
+    keeps u (view_after u (Look at) (Looked n cargo)) (λ g m. look_laws.were u at n cargo g m) (λ g m. subst (λ (fs : List Frame). Contains fs g) away m)
+    (λ g p m i. holds g p (subst (λ (fs : List Frame). Contains fs g) away m) i) (size_laws.each u (Look at) (Looked n cargo)) (size_laws.number u (Look at) (Looked n cargo)) r
 
-look : (u : View) (f : Frame) (n : ℕ) (load : Load) → KeepsLeased u → Contains u.exported f → return_place f < length u.held → Promises u (Look (return_place f)) (Looked n load) → KeepsLeased (view_after u (Look (return_place f)) (Looked n load))
-look u f zero load r m l told = look_by u f 0 load r (λ g p a i. look_holds u f load p r m l told (r.holds g p a i))
-look u f (suc n) load r m l told = subst (λ (v : View). KeepsLeased v) (sym (look_laws.alive u (return_place f) (suc n) load (λ e. omega (arith, e)))) r
+look : (u : View) (f : Frame) (n : ℕ) (cargo : Cargo) → KeepsLeased u → Contains u.exported f → return_place f < length u.held → Promises u (Look (return_place f)) (Looked n cargo) → KeepsLeased (view_after u (Look (return_place f)) (Looked n cargo))
+look u f zero cargo r m l told = look_by u f 0 cargo r (λ g p a i. look_holds u f cargo p r m l told (r.holds g p a i))
+look u f (suc n) cargo r m l told = subst (λ (v : View). KeepsLeased v) (sym (look_laws.alive u (return_place f) (suc n) cargo (λ e. omega (arith, e)))) r
 
 -- ---- chains that are taken
 
-abbrev Comes : View → Load → Frame → Type 0
-Comes u load f = IsLeased u f ⊎ Contains load.frames f
+abbrev Comes : View → Cargo → Frame → Type 0
+Comes u cargo f = IsLeased u f ⊎ Contains cargo.frames f
 
--- a frame of the load shares a word with a leased frame that was there only where they are one
-meets : (u : View) (slot : Slot) (chain : Chain) (load : Load) (f g : Frame) (p : ℕ) → KeepsLeased u → ComesWhole u load → Promises u (SlotTake slot) (Took (Some chain) load) → Contains load.frames f → IsLeased u g → Inside f p → Inside g p → f ≡ g
-meets u slot chain load f g p r w told m (inl e) i j =
+-- a frame of the cargo shares a word with a leased frame that was there only where they are one
+meets : (u : View) (slot : Slot) (chain : Chain) (cargo : Cargo) (f g : Frame) (p : ℕ) → KeepsLeased u → ComesWhole u cargo → Promises u (SlotTake slot) (Took (Some chain) cargo) → Contains cargo.frames f → IsLeased u g → Inside f p → Inside g p → f ≡ g
+meets u slot chain cargo f g p r w told m (inl e) i j =
     let home : home_of u.each (return_place f) ≡ u.number = sym (w.one_home f p m i) ∙ r.home g p e j in
     r.apart.apart f g p (inl (told.own f m home)) (inl e) i j
-meets u slot chain load f g p r w told m (inr a) i j =
+meets u slot chain cargo f g p r w told m (inr a) i j =
     let word = w.whole f p m i in
     let none = w.fresh p word.0 word.1 in
     let held = r.holds g p a j in
     let was = held.1 in
     let no : ⊥ = cc in absurd no
 
-take_apart : (u : View) (slot : Slot) (chain : Chain) (load : Load) → KeepsLeased u → ComesWhole u load → Promises u (SlotTake slot) (Took (Some chain) load) → (f g : Frame) (p : ℕ) → Comes u load f → Comes u load g → Inside f p → Inside g p → f ≡ g
-take_apart u slot chain load r w told f g p (inl a) (inl b) i j = r.apart.apart f g p a b i j
-take_apart u slot chain load r w told f g p (inl a) (inr b) i j = sym (meets u slot chain load g f p r w told b a j i)
-take_apart u slot chain load r w told f g p (inr a) (inl b) i j = meets u slot chain load f g p r w told a b i j
-take_apart u slot chain load r w told f g p (inr a) (inr b) i j = w.apart f g p a b i j
+take_apart : (u : View) (slot : Slot) (chain : Chain) (cargo : Cargo) → KeepsLeased u → ComesWhole u cargo → Promises u (SlotTake slot) (Took (Some chain) cargo) → (f g : Frame) (p : ℕ) → Comes u cargo f → Comes u cargo g → Inside f p → Inside g p → f ≡ g
+take_apart u slot chain cargo r w told f g p (inl a) (inl b) i j = r.apart.apart f g p a b i j
+take_apart u slot chain cargo r w told f g p (inl a) (inr b) i j = sym (meets u slot chain cargo g f p r w told b a j i)
+take_apart u slot chain cargo r w told f g p (inr a) (inl b) i j = meets u slot chain cargo f g p r w told a b i j
+take_apart u slot chain cargo r w told f g p (inr a) (inr b) i j = w.apart f g p a b i j
 
--- a word of the load is held afterwards, and so is each that was held
-took_word : (u : View) (slot : Slot) (chain : Chain) (load : Load) (p : ℕ) → Promises u (SlotTake slot) (Took (Some chain) load) → (n : ℕ) × (kept load.words p ≡ Some n) → Holds (taking u slot chain load) p
-took_word u slot chain load p told word = (word.0, take_laws.words u slot chain load p word.0 told word.1)
+-- a word of the cargo is held afterwards, and so is each that was held
+took_word : (u : View) (slot : Slot) (chain : Chain) (cargo : Cargo) (p : ℕ) → Promises u (SlotTake slot) (Took (Some chain) cargo) → (n : ℕ) × (kept cargo.words p ≡ Some n) → Holds (taking u slot chain cargo) p
+took_word u slot chain cargo p told word = (word.0, take_laws.words u slot chain cargo p word.0 told word.1)
 
-took_held : (u : View) (slot : Slot) (chain : Chain) (load : Load) (p : ℕ) (o : Option ℕ) → kept load.words p ≡ o → Promises u (SlotTake slot) (Took (Some chain) load) → Holds u p → Holds (taking u slot chain load) p
-took_held u slot chain load p (Some n) e told h = took_word u slot chain load p told (n, e)
-took_held u slot chain load p None e told h = (h.0, take_laws.others u slot chain load p e ∙ h.1)
+took_held : (u : View) (slot : Slot) (chain : Chain) (cargo : Cargo) (p : ℕ) (o : Option ℕ) → kept cargo.words p ≡ o → Promises u (SlotTake slot) (Took (Some chain) cargo) → Holds u p → Holds (taking u slot chain cargo) p
+took_held u slot chain cargo p (Some n) e told h = took_word u slot chain cargo p told (n, e)
+took_held u slot chain cargo p None e told h = (h.0, take_laws.others u slot chain cargo p e ∙ h.1)
 
-take_holds : (u : View) (slot : Slot) (chain : Chain) (load : Load) → KeepsLeased u → ComesWhole u load → Promises u (SlotTake slot) (Took (Some chain) load) → (f : Frame) (p : ℕ) → Contains u.away f ⊎ Contains load.frames f → Inside f p → Holds (taking u slot chain load) p
-take_holds u slot chain load r w told f p (inl a) i = took_held u slot chain load p (kept load.words p) refl told (r.holds f p a i)
-take_holds u slot chain load r w told f p (inr m) i = took_word u slot chain load p told (w.whole f p m i)
+take_holds : (u : View) (slot : Slot) (chain : Chain) (cargo : Cargo) → KeepsLeased u → ComesWhole u cargo → Promises u (SlotTake slot) (Took (Some chain) cargo) → (f : Frame) (p : ℕ) → Contains u.away f ⊎ Contains cargo.frames f → Inside f p → Holds (taking u slot chain cargo) p
+take_holds u slot chain cargo r w told f p (inl a) i = took_held u slot chain cargo p (kept cargo.words p) refl told (r.holds f p a i)
+take_holds u slot chain cargo r w told f p (inr m) i = took_word u slot chain cargo p told (w.whole f p m i)
 
-take_words : (u : View) (load : Load) → KeepsLeased u → ComesWhole u load → (f : Frame) → Comes u load f → place_of f.low < place_of f.base
-take_words u load r w f (inl a) = r.apart.some_word f a
-take_words u load r w f (inr m) = w.some_word f m
+take_words : (u : View) (cargo : Cargo) → KeepsLeased u → ComesWhole u cargo → (f : Frame) → Comes u cargo f → place_of f.low < place_of f.base
+take_words u cargo r w f (inl a) = r.apart.some_word f a
+take_words u cargo r w f (inr m) = w.some_word f m
 
-take : (u : View) (slot : Slot) (chain : Chain) (load : Load) → KeepsLeased u → ComesWhole u load → Promises u (SlotTake slot) (Took (Some chain) load) → KeepsLeased (taking u slot chain load)
-take u slot chain load r w told =
-    let v : View = taking u slot chain load in
-    let a = Took (Some chain) load in
+take : (u : View) (slot : Slot) (chain : Chain) (cargo : Cargo) → KeepsLeased u → ComesWhole u cargo → Promises u (SlotTake slot) (Took (Some chain) cargo) → KeepsLeased (taking u slot chain cargo)
+take u slot chain cargo r w told =
+    let v : View = taking u slot chain cargo in
+    let a = Took (Some chain) cargo in
     record {
       apart = record {
-        some_word = λ f l. take_words u load r w f (take_laws.were u slot chain load f l);
-        apart = λ f g p lf lg i j. take_apart u slot chain load r w told f g p (take_laws.were u slot chain load f lf) (take_laws.were u slot chain load g lg) i j;
+        some_word = λ f l. take_words u cargo r w f (take_laws.were u slot chain cargo f l);
+        apart = λ f g p lf lg i j. take_apart u slot chain cargo r w told f g p (take_laws.were u slot chain cargo f lf) (take_laws.were u slot chain cargo g lg) i j;
       };
-      holds = λ f p m i. take_holds u slot chain load r w told f p (take_laws.away u slot chain load f m) i;
-      home = λ f p m i. subst (λ (k : ℕ). home_of k p ≡ v.number) (sym (size_laws.each u (SlotTake slot) a)) (r.home f p (subst (λ (fs : List Frame). Contains fs f) (take_laws.exported u slot chain load) m) i ∙ sym (size_laws.number u (SlotTake slot) a));
+      holds = λ f p m i. take_holds u slot chain cargo r w told f p (take_laws.away u slot chain cargo f m) i;
+      home = λ f p m i. subst (λ (k : ℕ). home_of k p ≡ v.number) (sym (size_laws.each u (SlotTake slot) a)) (r.home f p (subst (λ (fs : List Frame). Contains fs f) (take_laws.exported u slot chain cargo) m) i ∙ sym (size_laws.number u (SlotTake slot) a));
     }
 
-again : (u : View) (slot : Slot) (chain : Chain) (load : Load) → ComesWhole u load → Promises u (SlotTake slot) (Took (Some chain) load) → KnowsNames (taking u slot chain load) → HasFrames (taking u slot chain load) chain load.carried load.frames
-again u slot chain load w told knows =
-    let a = Took (Some chain) load in
+again : (u : View) (slot : Slot) (chain : Chain) (cargo : Cargo) → ComesWhole u cargo → Promises u (SlotTake slot) (Took (Some chain) cargo) → KnowsNames (taking u slot chain cargo) → HasFrames (taking u slot chain cargo) chain cargo.carried cargo.frames
+again u slot chain cargo w told knows =
+    let a = Took (Some chain) cargo in
     record {
-      carried = (take_laws.chain u slot chain load told).0;
+      carried = (take_laws.chain u slot chain cargo told).0;
       note = told.of.0;
       cell = told.of.2;
       wait = told.of.1;
-      leased = λ f m. take_laws.frames u slot chain load f told m;
-      holds = λ f p m i. took_word u slot chain load p told (w.whole f p m i);
-      own = λ f m home. subst (λ (fs : List Frame). Contains fs f) (sym (take_laws.exported u slot chain load)) (told.own f m (ap (λ (k : ℕ). home_of k (return_place f)) (sym (size_laws.each u (SlotTake slot) a)) ∙ home ∙ size_laws.number u (SlotTake slot) a));
+      leased = λ f m. take_laws.frames u slot chain cargo f told m;
+      holds = λ f p m i. took_word u slot chain cargo p told (w.whole f p m i);
+      own = λ f m home. subst (λ (fs : List Frame). Contains fs f) (sym (take_laws.exported u slot chain cargo)) (told.own f m (ap (λ (k : ℕ). home_of k (return_place f)) (sym (size_laws.each u (SlotTake slot) a)) ∙ home ∙ size_laws.number u (SlotTake slot) a));
       knows = knows;
     }
 
 -- ---- chains that are put
 
-put_holds : (u : View) (slot : Slot) (chain : Chain) (load : Load) (g : Frame) (p : ℕ) (o : Option ℕ) → kept load.words p ≡ o → KeepsLeased u → MayCarry u chain load → Contains (putting u slot chain load).away g → Inside g p → Holds (putting u slot chain load) p
-put_holds u slot chain load g p None e r may m i =
-    let held = r.holds g p (put_laws.were u slot chain load g m) i in
-    (held.0, put_laws.others u slot chain load p e ∙ held.1)
-put_holds u slot chain load g p (Some n) e r may m i =
+put_holds : (u : View) (slot : Slot) (chain : Chain) (cargo : Cargo) (g : Frame) (p : ℕ) (o : Option ℕ) → kept cargo.words p ≡ o → KeepsLeased u → MayCarry u chain cargo → Contains (putting u slot chain cargo).away g → Inside g p → Holds (putting u slot chain cargo) p
+put_holds u slot chain cargo g p None e r may m i =
+    let held = r.holds g p (put_laws.were u slot chain cargo g m) i in
+    (held.0, put_laws.others u slot chain cargo p e ∙ held.1)
+put_holds u slot chain cargo g p (Some n) e r may m i =
     let frame = (may.words p n e).1 in
     let f : Frame = frame.0 in
-    let same : f ≡ g = r.apart.apart f g p (may.leased f frame.1) (inr (put_laws.were u slot chain load g m)) frame.2 i in
-    absurd (put_laws.gone u slot chain load g (subst (λ (z : Frame). Contains load.frames z) same frame.1) m)
+    let same : f ≡ g = r.apart.apart f g p (may.leased f frame.1) (inr (put_laws.were u slot chain cargo g m)) frame.2 i in
+    absurd (put_laws.gone u slot chain cargo g (subst (λ (z : Frame). Contains cargo.frames z) same frame.1) m)
 
-put : (u : View) (slot : Slot) (chain : Chain) (load : Load) → KeepsLeased u → MayCarry u chain load → KeepsLeased (putting u slot chain load)
-put u slot chain load r may = keeps u (putting u slot chain load) (λ f m. subst (λ (fs : List Frame). Contains fs f) (put_laws.exported u slot chain load) m) (λ f m. put_laws.were u slot chain load f m)
-    (λ g p m i. put_holds u slot chain load g p (kept load.words p) refl r may m i) (size_laws.each u _ Done) (size_laws.number u _ Done) r
+put : (u : View) (slot : Slot) (chain : Chain) (cargo : Cargo) → KeepsLeased u → MayCarry u chain cargo → KeepsLeased (putting u slot chain cargo)
+put u slot chain cargo r may = keeps u (putting u slot chain cargo) (λ f m. subst (λ (fs : List Frame). Contains fs f) (put_laws.exported u slot chain cargo) m) (λ f m. put_laws.were u slot chain cargo f m)
+    (λ g p m i. put_holds u slot chain cargo g p (kept cargo.words p) refl r may m i) (size_laws.each u _ Done) (size_laws.number u _ Done) r
 
 pub leased_laws : LeasedLaws
-leased_laws = record { store = store; mark = mark; look = look; take = take; put = put; again = again }
+leased_laws = record {
+  store = store;
+  mark = mark;
+  look = look;
+  take = λ u slot chain cargo r told. take u slot chain cargo r told.whole told;
+  put = put;
+  again = λ u slot chain cargo told knows. again u slot chain cargo told.whole told knows;
+}

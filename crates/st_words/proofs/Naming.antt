@@ -13,7 +13,7 @@ named_is_within x u s a = (x, refl)
 
 -- nothing was done before the step
 pub stays_free : (v : View) → IsFree v v
-stays_free v = (record { progress = progress_of v; chains = v.chains; names = v.names; exported = v.exported }, refl)
+stays_free v = (record { progress = progress_of v; child = v.child; chains = v.chains; exported = v.exported }, refl)
 
 -- a caller brings its view forward, and names what its threads have come to
 pub named_asks : (says : Step → Answer → Type 0) (v u : View) (progress : Step → Answer → Progress) (s : Step) → IsFree v u → Can u s → Asks says IsFree Does (λ w t a. named (progress t a) u t a) v s

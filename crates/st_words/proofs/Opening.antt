@@ -8,8 +8,8 @@ use Rattle.st_base.specs.declared.thread.Thread.{Thread}
 use Rattle.st_words.specs.declared.view.View.{View}
 use Rattle.st_words.specs.declared.words.Words.{Words}
 use Rattle.st_words.specs.Encodings.{ready, out_bytes}
-use Rattle.st_words.specs.Plain.{Loads, view_at, no_view, led_by, first_view, first_views, first_words, first_loads}
-use Rattle.st_words.specs.Sizes.{SizedWords, SizedLoads, SizedView, SizedViews, Sized}
+use Rattle.st_words.specs.Plain.{Cargoes, view_at, no_view, led_by, first_view, first_views, first_words, first_cargoes}
+use Rattle.st_words.specs.Sizes.{SizedWords, SizedCargoes, SizedView, SizedViews, Sized}
 
 first_count : (limits : Limits) (workers : ℕ) → length (first_views limits workers) ≡ workers
 first_count limits workers = length-map-range_with_len (first_view limits workers) 0 workers
@@ -63,23 +63,23 @@ sized_views limits workers w l =
     subst (λ (n : ℕ). SizedView n limits.cells (workers * (limits.stack / 8)) w (view_at (first_views limits workers) w)) (sym count)
     (subst (λ (v : View). SizedView workers limits.cells (workers * (limits.stack / 8)) w v) (sym at) (sized_view limits workers w))
 
-sized_loads : (limits : Limits) (workers : ℕ) (thread : Thread) → SizedLoads (first_loads limits workers thread) limits.cells workers
-unfolding first_loads
-sized_loads limits workers thread = record { cells = filled_length limits.cells _ _; mail = length-replicate workers _ }
+sized_cargoes : (limits : Limits) (workers : ℕ) (thread : Thread) → SizedCargoes (first_cargoes limits workers thread) limits.cells workers
+unfolding first_cargoes
+sized_cargoes limits workers thread = record { cells = filled_length limits.cells _ _; mail = length-replicate workers _ }
 
-pub first_sized : (limits : Limits) (workers : ℕ) (thread : Thread) → Sized (first_words limits workers) (first_loads limits workers thread) (first_views limits workers)
+pub first_sized : (limits : Limits) (workers : ℕ) (thread : Thread) → Sized (first_words limits workers) (first_cargoes limits workers thread) (first_views limits workers)
 first_sized limits workers thread =
     let count : length (first_views limits workers) ≡ workers = first_count limits workers in
     record {
       words = subst (λ (n : ℕ). SizedWords (first_words limits workers) n) (sym count) (sized_first limits workers);
-      loads = subst (λ (n : ℕ). SizedLoads (first_loads limits workers thread) n (length (first_views limits workers))) (sym (first_cells limits workers)) (subst (λ (n : ℕ). SizedLoads (first_loads limits workers thread) limits.cells n) (sym count) (sized_loads limits workers thread));
+      cargoes = subst (λ (n : ℕ). SizedCargoes (first_cargoes limits workers thread) n (length (first_views limits workers))) (sym (first_cells limits workers)) (subst (λ (n : ℕ). SizedCargoes (first_cargoes limits workers thread) limits.cells n) (sym count) (sized_cargoes limits workers thread));
       views = subst (λ (n : ℕ). SizedViews (first_views limits workers) n (length (first_words limits workers).stack)) (sym (first_cells limits workers)) (subst (λ (n : ℕ). SizedViews (first_views limits workers) limits.cells n) (sym (first_stack limits workers)) (sized_views limits workers));
     }
 
 -- by the equations of a board's parts
-pub opened_sized : (limits : Limits) (workers : ℕ) (thread : Thread) (x : Words) (ls : Loads) (vs : List View) → x ≡ first_words limits workers → ls ≡ first_loads limits workers thread → vs ≡ first_views limits workers → Sized x ls vs
+pub opened_sized : (limits : Limits) (workers : ℕ) (thread : Thread) (x : Words) (ls : Cargoes) (vs : List View) → x ≡ first_words limits workers → ls ≡ first_cargoes limits workers thread → vs ≡ first_views limits workers → Sized x ls vs
 opened_sized limits workers thread x ls vs ex el ev =
-    subst (λ (y : Words). Sized y ls vs) (sym ex) (subst (λ (z : Loads). Sized (first_words limits workers) z vs) (sym el) (subst (λ (z : List View). Sized (first_words limits workers) (first_loads limits workers thread) z) (sym ev) (first_sized limits workers thread)))
+    subst (λ (y : Words). Sized y ls vs) (sym ex) (subst (λ (z : Cargoes). Sized (first_words limits workers) z vs) (sym el) (subst (λ (z : List View). Sized (first_words limits workers) (first_cargoes limits workers thread) z) (sym ev) (first_sized limits workers thread)))
 
 pub first_sizes : (limits : Limits) (workers : ℕ) (x : Words) → x ≡ first_words limits workers → SizedWords x workers × (length x.owners ≡ limits.cells) × (length x.stack ≡ workers * (limits.stack / 8))
 first_sizes limits workers x e = subst (λ (y : Words). SizedWords y workers × (length y.owners ≡ limits.cells) × (length y.stack ≡ workers * (limits.stack / 8))) (sym e) (sized_first limits workers, first_cells limits workers, first_stack limits workers)

@@ -9,12 +9,12 @@ use Rattle.st_base.specs.declared.chain.Waiting.TheVariants as waits
 use Rattle.st_words.specs.declared.view.Slot.{Slot}
 use Rattle.st_words.specs.declared.view.Slot.TheVariants.{Cell, Mail}
 use Rattle.st_words.specs.declared.view.Carried.{Carried}
-use Rattle.st_words.specs.declared.view.Load.{Load}
+use Rattle.st_words.specs.declared.view.Cargo.{Cargo}
 use Rattle.st_words.specs.declared.view.Waiter.{Waiter}
 use Rattle.st_words.specs.declared.view.View.{View}
-use Rattle.st_words.specs.Steps.{kept}
+use Rattle.st_words.specs.Steps.{kept, IsWaiting}
 use Rattle.st_words.specs.Views.{view_after, slot_put, held_but, is_among, without_frames, without_chain, in_hand, waiter_of}
-use Rattle.st_words.specs.Laws.{PutLaws, IsWaiting}
+use Rattle.st_words.specs.Laws.{PutLaws}
 use Rattle.st_words.proofs.Lists.{all_none, all_stays, contains_here, contains_later, contains_none, contains_case, filter_in, filter_out, other_true, other_false, same_true, is_false, both_true}
 
 -- ---- words
@@ -136,38 +136,38 @@ waiters_stay c waits.Trapped hand y m = m
 
 -- ---- each part of the view, whichever slot it is
 
-held_put : (u : View) (slot : Slot) (chain : Chain) (load : Load) → (slot_put slot chain load u).held ≡ held_but load.words u.held
-held_put u (Cell c) chain load = refl
-held_put u (Mail at) chain load = refl
+held_put : (u : View) (slot : Slot) (chain : Chain) (cargo : Cargo) → (slot_put slot chain cargo u).held ≡ held_but cargo.words u.held
+held_put u (Cell c) chain cargo = refl
+held_put u (Mail at) chain cargo = refl
 
-away_put : (u : View) (slot : Slot) (chain : Chain) (load : Load) → (slot_put slot chain load u).away ≡ without_frames load.frames u.away
-away_put u (Cell c) chain load = refl
-away_put u (Mail at) chain load = refl
+away_put : (u : View) (slot : Slot) (chain : Chain) (cargo : Cargo) → (slot_put slot chain cargo u).away ≡ without_frames cargo.frames u.away
+away_put u (Cell c) chain cargo = refl
+away_put u (Mail at) chain cargo = refl
 
-exported_put : (u : View) (slot : Slot) (chain : Chain) (load : Load) → (slot_put slot chain load u).exported ≡ u.exported
-exported_put u (Cell c) chain load = refl
-exported_put u (Mail at) chain load = refl
+exported_put : (u : View) (slot : Slot) (chain : Chain) (cargo : Cargo) → (slot_put slot chain cargo u).exported ≡ u.exported
+exported_put u (Cell c) chain cargo = refl
+exported_put u (Mail at) chain cargo = refl
 
-chains_put : (u : View) (slot : Slot) (chain : Chain) (load : Load) → (slot_put slot chain load u).chains ≡ without_chain chain.cell u.chains
-chains_put u (Cell c) chain load = refl
-chains_put u (Mail at) chain load = refl
+chains_put : (u : View) (slot : Slot) (chain : Chain) (cargo : Cargo) → (slot_put slot chain cargo u).chains ≡ without_chain chain.cell u.chains
+chains_put u (Cell c) chain cargo = refl
+chains_put u (Mail at) chain cargo = refl
 
-hands_put : (u : View) (slot : Slot) (chain : Chain) (load : Load) (x : Waiter) → Contains u.hand x → Contains (slot_put slot chain load u).hand x
-hands_put u (Cell c) chain load x m = waiters_stay c chain.wait u.hand x m
-hands_put u (Mail at) chain load x m = m
+hands_put : (u : View) (slot : Slot) (chain : Chain) (cargo : Cargo) (x : Waiter) → Contains u.hand x → Contains (slot_put slot chain cargo u).hand x
+hands_put u (Cell c) chain cargo x m = waiters_stay c chain.wait u.hand x m
+hands_put u (Mail at) chain cargo x m = m
 
 pub put_laws : PutLaws
 unfolding view_after
 put_laws = record {
-  words = λ u slot chain load p n e. ap (λ (h : List (Option ℕ)). kept h p) (held_put u slot chain load) ∙ but_in load.words u.held p n e;
-  others = λ u slot chain load p e. ap (λ (h : List (Option ℕ)). kept h p) (held_put u slot chain load) ∙ but_out load.words u.held p e;
-  gone = λ u slot chain load f m k. frames_gone load.frames u.away f m (subst (λ (fs : List Frame). Contains fs f) (away_put u slot chain load) k);
-  stay = λ u slot chain load f n m. subst (λ (fs : List Frame). Contains fs f) (sym (away_put u slot chain load)) (frames_stay load.frames u.away f n m);
-  were = λ u slot chain load f k. frames_were load.frames u.away f (subst (λ (fs : List Frame). Contains fs f) (away_put u slot chain load) k);
-  exported = λ u slot chain load. exported_put u slot chain load;
-  chain = λ u slot chain load has. chain_gone chain.cell u.chains has.0 (subst (λ (xs : List Carried). Contains xs has.0) (chains_put u slot chain load) has.1) has.2;
-  chains = λ u slot chain load x n m. subst (λ (xs : List Carried). Contains xs x) (sym (chains_put u slot chain load)) (chain_stay chain.cell u.chains x n m);
-  hand = λ u c chain load w. waiter_there c chain.wait u.hand w;
-  waits = λ u c chain load w n. waiter_waits c chain.wait u.hand w (is_false (in_hand c u.hand) (λ e. n (hand_has c u.hand e)));
-  hands = λ u slot chain load x m. hands_put u slot chain load x m;
+  words = λ u slot chain cargo p n e. ap (λ (h : List (Option ℕ)). kept h p) (held_put u slot chain cargo) ∙ but_in cargo.words u.held p n e;
+  others = λ u slot chain cargo p e. ap (λ (h : List (Option ℕ)). kept h p) (held_put u slot chain cargo) ∙ but_out cargo.words u.held p e;
+  gone = λ u slot chain cargo f m k. frames_gone cargo.frames u.away f m (subst (λ (fs : List Frame). Contains fs f) (away_put u slot chain cargo) k);
+  stay = λ u slot chain cargo f n m. subst (λ (fs : List Frame). Contains fs f) (sym (away_put u slot chain cargo)) (frames_stay cargo.frames u.away f n m);
+  were = λ u slot chain cargo f k. frames_were cargo.frames u.away f (subst (λ (fs : List Frame). Contains fs f) (away_put u slot chain cargo) k);
+  exported = λ u slot chain cargo. exported_put u slot chain cargo;
+  chain = λ u slot chain cargo has. chain_gone chain.cell u.chains has.0 (subst (λ (xs : List Carried). Contains xs has.0) (chains_put u slot chain cargo) has.1) has.2;
+  chains = λ u slot chain cargo x n m. subst (λ (xs : List Carried). Contains xs x) (sym (chains_put u slot chain cargo)) (chain_stay chain.cell u.chains x n m);
+  hand = λ u c chain cargo w. waiter_there c chain.wait u.hand w;
+  waits = λ u c chain cargo w n. waiter_waits c chain.wait u.hand w (is_false (in_hand c u.hand) (λ e. n (hand_has c u.hand e)));
+  hands = λ u slot chain cargo x m. hands_put u slot chain cargo x m;
 }

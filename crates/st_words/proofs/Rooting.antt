@@ -7,14 +7,14 @@ use Rattle.std.proofs.lemmas.Option.{get_or_from_slice_get}
 use Rattle.st_base.specs.declared.chain.Chain.{Chain}
 use Rattle.st_base.specs.declared.limits.Limits.{Limits}
 use Rattle.st_base.specs.declared.thread.Thread.{Thread}
-use Rattle.st_words.specs.declared.view.Load.{Load}
+use Rattle.st_words.specs.declared.view.Cargo.{Cargo}
 use Rattle.st_words.specs.declared.view.Slot.TheVariants.{Cell}
 use Rattle.st_words.specs.declared.view.View.{View}
 use Rattle.st_words.specs.declared.words.Words.{Words}
 use Rattle.st_words.specs.Laws.{named, progress_of}
-use Rattle.st_words.specs.Plain.{Loads, first_view, first_words, first_loads, words_after, in_slot, load_in, root_chain, root_load}
+use Rattle.st_words.specs.Plain.{Cargoes, first_view, first_words, first_cargoes, words_after, in_slot, cargo_in, root_chain, root_cargo}
 use Rattle.st_words.specs.Steps.{Step, RootTake, SlotTake, ActiveAdd, Answer, Number, Took, Can, Asks}
-use Rattle.st_words.specs.Views.{Does, IsFree, view_after, no_load}
+use Rattle.st_words.specs.Views.{Does, IsFree, view_after, no_cargo}
 use Rattle.st_words.proofs.Naming.{plain_asks}
 
 -- the view of a worker that found Root 1
@@ -47,21 +47,21 @@ root_found limits x y n found some words left said =
     sym (get_or_from_slice_get _ 0 found None there) ∙ get_or-set_same (no_chains limits) 0 (Some root_chain) None (omega arith)
 
 -- it counts as active
-root_unit : (limits : Limits) (thread : Thread) → 0 < limits.cells → (load_in (first_loads limits 2 thread) (Cell 0)).unit ≡ 1
-unfolding first_loads
+root_unit : (limits : Limits) (thread : Thread) → 0 < limits.cells → (cargo_in (first_cargoes limits 2 thread) (Cell 0)).unit ≡ 1
+unfolding first_cargoes
 root_unit limits thread some =
-    let count : length (replicate limits.cells no_load) ≡ limits.cells = length-replicate limits.cells no_load in
-    ap (λ (load : Load). load.unit) (get_or-set_same (replicate limits.cells no_load) 0 (root_load thread) _ (omega arith))
+    let count : length (replicate limits.cells no_cargo) ≡ limits.cells = length-replicate limits.cells no_cargo in
+    ap (λ (cargo : Cargo). cargo.unit) (get_or-set_same (replicate limits.cells no_cargo) 0 (root_cargo thread) _ (omega arith))
 
-root_taken : (limits : Limits) (chain : Chain) (load : Load) → (named (progress_of (root_view limits)) (root_view limits) (SlotTake (Cell 0)) (Took (Some chain) load)).share ≡ 0 + load.unit
+root_taken : (limits : Limits) (chain : Chain) (cargo : Cargo) → (named (progress_of (root_view limits)) (root_view limits) (SlotTake (Cell 0)) (Took (Some chain) cargo)).share ≡ 0 + cargo.unit
 unfolding view_after
-root_taken limits chain load = refl
+root_taken limits chain cargo = refl
 
-pub root_share : (limits : Limits) (thread : Thread) (ls : Loads) (u v : View) (found : Option Chain) (load : Load) → 0 < limits.cells → ls ≡ first_loads limits 2 thread → u ≡ root_view limits → found ≡ Some root_chain → load ≡ load_in ls (Cell 0) → v ≡ named (progress_of u) u (SlotTake (Cell 0)) (Took found load) → v.share ≡ 1
-root_share limits thread ls u v found load some loads seen there of after =
-    let unit : load.unit ≡ 1 = ap (λ (l : Load). l.unit) of ∙ ap (λ (l : Loads). (load_in l (Cell 0)).unit) loads ∙ root_unit limits thread some in
-    let taken : v ≡ named (progress_of (root_view limits)) (root_view limits) (SlotTake (Cell 0)) (Took (Some root_chain) load) = after ∙ ap (λ (o : Option Chain). named (progress_of u) u (SlotTake (Cell 0)) (Took o load)) there ∙ ap (λ (w : View). named (progress_of w) w (SlotTake (Cell 0)) (Took (Some root_chain) load)) seen in
-    let share : v.share ≡ 0 + load.unit = ap (λ (w : View). w.share) taken ∙ root_taken limits root_chain load in
+pub root_share : (limits : Limits) (thread : Thread) (ls : Cargoes) (u v : View) (found : Option Chain) (cargo : Cargo) → 0 < limits.cells → ls ≡ first_cargoes limits 2 thread → u ≡ root_view limits → found ≡ Some root_chain → cargo ≡ cargo_in ls (Cell 0) → v ≡ named (progress_of u) u (SlotTake (Cell 0)) (Took found cargo) → v.share ≡ 1
+root_share limits thread ls u v found cargo some cargoes seen there of after =
+    let unit : cargo.unit ≡ 1 = ap (λ (l : Cargo). l.unit) of ∙ ap (λ (l : Cargoes). (cargo_in l (Cell 0)).unit) cargoes ∙ root_unit limits thread some in
+    let taken : v ≡ named (progress_of (root_view limits)) (root_view limits) (SlotTake (Cell 0)) (Took (Some root_chain) cargo) = after ∙ ap (λ (o : Option Chain). named (progress_of u) u (SlotTake (Cell 0)) (Took o cargo)) there ∙ ap (λ (w : View). named (progress_of w) w (SlotTake (Cell 0)) (Took (Some root_chain) cargo)) seen in
+    let share : v.share ≡ 0 + cargo.unit = ap (λ (w : View). w.share) taken ∙ root_taken limits root_chain cargo in
     omega arith
 
 pub asks_active_add : (says : Step → Answer → Type 0) (v : View) → v.share ≡ 1 → Asks says IsFree Does (λ w t a. named (progress_of w) w t a) v (ActiveAdd true)

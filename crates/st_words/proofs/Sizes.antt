@@ -11,9 +11,9 @@ use Rattle.st_words.specs.declared.view.CellWord.{CellWord}
 use Rattle.st_words.specs.declared.view.CellWord.TheVariants.{Owner, State, Value, Next, Standing, Trap}
 use Rattle.st_words.specs.declared.view.Slot.{Slot}
 use Rattle.st_words.specs.declared.view.Slot.TheVariants.{Cell, Mail}
-use Rattle.st_words.specs.declared.view.Load.{Load}
+use Rattle.st_words.specs.declared.view.Cargo.{Cargo}
 use Rattle.st_words.specs.declared.view.View.{View}
-use Rattle.st_words.specs.Encodings.{out_bytes, is_counter, full_word, head_in, ready}
+use Rattle.st_words.specs.Encodings.{out_bytes, is_counter, full_word, head_in, running, ready}
 use Rattle.st_words.specs.Steps.{Step, StackStore, Mark, Look, CellLoad, CellStore, CellChange, Draw, ActiveAdd, ActiveLoad, StopLoad, StopSet, RootTake, RequestChange, MailLoad, MailStore, SlotTake, SlotPut, OutLoad, Answer, Done, Number, Looked, Took, Asks, Holds}
 use Rattle.st_words.specs.Views as views
 use Rattle.st_words.specs.Views.{view_after, remade, Does, IsFree, is_inside, frame_returning, has_number, in_hand}
@@ -48,9 +48,9 @@ same_back : (p : ℕ) (words : List (Option ℕ)) (f : Option Frame) (v : View) 
 same_back p words None v = itself v
 same_back p words (Some f) v = (refl, refl, refl, refl, remade_length _ 0 v.held)
 
-same_looked : (p n : ℕ) (load : Load) (v : View) → SameSizes v (views.looked p n load v)
-same_looked p zero load v = same_back p load.words (frame_returning p v.exported) v
-same_looked p (suc n) load v = itself v
+same_looked : (p n : ℕ) (cargo : Cargo) (v : View) → SameSizes v (views.looked p n cargo v)
+same_looked p zero cargo v = same_back p cargo.words (frame_returning p v.exported) v
+same_looked p (suc n) cargo v = itself v
 
 same_owner : (c n : ℕ) (v : View) → SameSizes v (views.with_owner c n v)
 same_owner c zero v = itself v
@@ -61,9 +61,9 @@ same_when c n true is_full v = itself v
 same_when c n false true v = itself v
 same_when c n false false v = itself v
 
-same_state : (owner : Option ℕ) (c n : ℕ) (v : View) → SameSizes v (views.with_state_by owner c n v)
+same_state : (kind : Option Bool) (c n : ℕ) (v : View) → SameSizes v (views.with_state_by kind c n v)
 same_state None c n v = itself v
-same_state (Some owner) c n v = same_when c n (is_counter owner) (n == full_word) v
+same_state (Some counter) c n v = same_when c n counter (n == full_word) v
 
 same_value : (c n : ℕ) (b : Bool) (v : View) → SameSizes v (views.with_value c n b v)
 same_value c n true v = itself v
@@ -71,7 +71,7 @@ same_value c n false v = itself v
 
 same_seen : (c : ℕ) (word : CellWord) (n : ℕ) (v : View) → SameSizes v (views.cell_seen c word n v)
 same_seen c Owner n v = same_owner c n v
-same_seen c State n v = same_state (views.owner_seen c v.owners) c n v
+same_seen c State n v = same_state (views.kind_seen c v) c n v
 same_seen c Value n v = same_value c n (has_number v.full c) v
 same_seen c Next n v = itself v
 same_seen c Standing n v = itself v
@@ -81,12 +81,20 @@ same_ready : (b : Bool) (c : ℕ) (v : View) → SameSizes v (views.made_ready b
 same_ready true c v = itself v
 same_ready false c v = itself v
 
+same_running : (b : Bool) (c : ℕ) (v : View) → SameSizes v (views.made_running b c v)
+same_running true c v = itself v
+same_running false c v = itself v
+
+same_stood : (a b : Bool) (c : ℕ) (v : View) → SameSizes v (views.made_ready a c (views.made_running b c v))
+same_stood true b c v = same_running b c v
+same_stood false b c v = same_running b c v
+
 same_stored : (c : ℕ) (word : CellWord) (n : ℕ) (v : View) → SameSizes v (views.cell_stored c word n v)
 same_stored c Owner n v = itself v
 same_stored c State n v = itself v
 same_stored c Value n v = itself v
 same_stored c Next n v = itself v
-same_stored c Standing n v = same_ready ((n == ready) && in_hand c v.hand) c (record v { chains = views.with_standing c n v.chains })
+same_stored c Standing n v = same_stood ((n == ready) && in_hand c v.hand) (n == running) c (record v { chains = views.with_standing c n v.chains })
 same_stored c Trap n v = itself v
 
 same_future : (c old new : ℕ) (b : Bool) (v : View) → SameSizes v (views.changed_future c old new b v)
@@ -103,7 +111,7 @@ same_by false c old new v = same_future c old new (new == full_word) v
 
 same_changed : (b : Bool) (c old new n : ℕ) (v : View) → SameSizes v (views.cell_changed b c old new n v)
 same_changed true c old new n v = same_by (views.counts_cell (views.owner_seen c v.owners)) c old new v
-same_changed false c old new n v = same_state (views.owner_seen c v.owners) c n v
+same_changed false c old new n v = same_state (views.kind_seen c v) c n v
 
 same_active : (n : ℕ) (v : View) → SameSizes v (views.with_active n v)
 same_active zero v = itself v
@@ -145,23 +153,23 @@ same_sent : (b : Bool) (n : ℕ) (v : View) → SameSizes v (views.mail_sent b n
 same_sent true n v = itself v
 same_sent false n v = itself v
 
-same_taken : (slot : Slot) (load : Load) (v : View) → SameSizes v (views.slot_taken slot load v)
-same_taken (Cell c) load v = (refl, refl, refl, refl, remade_length _ 0 v.held)
-same_taken (Mail at) load v = (refl, refl, refl, refl, remade_length _ 0 v.held)
+same_taken : (slot : Slot) (cargo : Cargo) (v : View) → SameSizes v (views.slot_taken slot cargo v)
+same_taken (Cell c) cargo v = (refl, refl, refl, refl, remade_length _ 0 v.held)
+same_taken (Mail at) cargo v = (refl, refl, refl, refl, remade_length _ 0 v.held)
 
-same_took : (slot : Slot) (chain : Option Chain) (load : Load) (v : View) → SameSizes v (views.took slot chain load v)
-same_took slot None load v = itself v
-same_took slot (Some chain) load v = same_taken slot load v
+same_took : (slot : Slot) (chain : Option Chain) (cargo : Cargo) (v : View) → SameSizes v (views.took slot chain cargo v)
+same_took slot None cargo v = itself v
+same_took slot (Some chain) cargo v = same_taken slot cargo v
 
-same_put : (slot : Slot) (chain : Chain) (load : Load) (v : View) → SameSizes v (views.slot_put slot chain load v)
-same_put (Cell c) chain load v = (refl, refl, refl, refl, remade_length _ 0 v.held)
-same_put (Mail at) chain load v = (refl, refl, refl, refl, remade_length _ 0 v.held)
+same_put : (slot : Slot) (chain : Chain) (cargo : Cargo) (v : View) → SameSizes v (views.slot_put slot chain cargo v)
+same_put (Cell c) chain cargo v = (refl, refl, refl, refl, remade_length _ 0 v.held)
+same_put (Mail at) chain cargo v = (refl, refl, refl, refl, remade_length _ 0 v.held)
 
 pub same_after : (v : View) (s : Step) (a : Answer) → SameSizes v (view_after v s a)
 unfolding view_after
 same_after v (StackStore p n) Done = (refl, refl, refl, refl, length-set v.held p (Some n))
 same_after v (Mark p) Done = (refl, refl, refl, refl, marked_length p _ v.held)
-same_after v (Look p) (Looked n load) = same_looked p n load v
+same_after v (Look p) (Looked n cargo) = same_looked p n cargo v
 same_after v (CellLoad c word) (Number n) = same_seen c word n v
 same_after v (CellStore c word n) Done = same_stored c word n v
 same_after v (CellChange c old new) (Number n) = same_changed (n == old) c old new n v
@@ -174,8 +182,8 @@ same_after v RootTake (Number n) = same_root n v
 same_after v (RequestChange at old new) (Number n) = same_requested (n == old) at old new v
 same_after v MailLoad (Number n) = same_mail _ n v
 same_after v (MailStore at n) Done = same_sent (at == v.number) n v
-same_after v (SlotTake slot) (Took chain load) = same_took slot chain load v
-same_after v (SlotPut slot chain load) Done = same_put slot chain load v
+same_after v (SlotTake slot) (Took chain cargo) = same_took slot chain cargo v
+same_after v (SlotPut slot chain cargo) Done = same_put slot chain cargo v
 same_after v (OutLoad i) (Number n) = itself v
 same_after v _ _ = itself v
 

@@ -1,20 +1,22 @@
--- What a step of a plain board leaves: board_sized, that its sizes stay, and board_left, what it tells of the words, the loads and the views.
--- Both take what a method has: the equation of each part after the step.
-use Rattle.std.proofs.Common.{◌≡◌, ℕ, ◌<◌, Bool, true, false, List, length, Option, Some, None, refl, sym, ap, ◌∙◌, subst, slice_set, length-set, ◌==◌, ◌&&◌}
+-- What a step of a plain board leaves: board_sized, that its sizes stay, and board_made, which is all that a method ensures. Both take what a
+-- method has: the equation of each part after the step.
+use Rattle.std.proofs.Common.{◌≡◌, ◌≢◌, ℕ, ◌<◌, Bool, true, false, List, length, Option, Some, None, refl, sym, ap, ◌∙◌, subst, slice_set, length-set, ◌==◌, ◌&&◌}
 use Rattle.st_base.specs.declared.chain.Chain.{Chain}
 use Rattle.st_words.specs.declared.view.CellWord.{CellWord}
 use Rattle.st_words.specs.declared.view.CellWord.TheVariants.{Owner, State, Value, Next, Standing, Trap}
 use Rattle.st_words.specs.declared.view.Slot.{Slot}
 use Rattle.st_words.specs.declared.view.Slot.TheVariants.{Cell, Mail}
-use Rattle.st_words.specs.declared.view.Load.{Load}
+use Rattle.st_words.specs.declared.view.Cargo.{Cargo}
 use Rattle.st_words.specs.declared.view.View.{View}
 use Rattle.st_words.specs.declared.words.Words.{Words}
 use Rattle.st_words.specs.Encodings.{ready}
 use Rattle.st_words.specs.Steps.{Step, StackStore, Mark, CellStore, CellChange, Draw, ActiveAdd, StopSet, RootTake, RequestChange, MailStore, OutStore, SlotTake, SlotPut, Answer, Number, Asks}
-use Rattle.st_words.specs.Views.{Does, IsFree, in_hand, no_load}
-use Rattle.st_words.specs.Plain.{Loads, view_at, words_after, loads_after, views_after, changed, with_cell, with_slot, with_load, ready_load, Left}
+use Rattle.st_words.specs.Views.{Does, IsFree, in_hand, no_cargo}
+use Rattle.st_words.specs.Plain.{Cargoes, view_at, words_after, cargoes_after, views_after, changed, with_cell, with_slot, with_cargo, ready_cargo, Exact, Left}
 use Rattle.st_words.specs.Sizes.{SizedWords, SizedViews, Sized}
-use Rattle.st_words.proofs.Sizes.{SameSizes, sized_moved, asked_sizes}
+use Rattle.st_words.specs.Made.{StepMade}
+use Rattle.st_words.specs.declared.plain.PlainBoard.{PlainBoard}
+use Rattle.st_words.proofs.Sizes.{SameSizes, sized_moved, asked_sizes, moved_here, moved_other}
 
 -- the words have as many of each kind
 abbrev SameWords : Words → Words → Type 0
@@ -54,7 +56,7 @@ same_words x w (RequestChange at old new) (Number n) = (refl, refl, refl, refl, 
 same_words x w (MailStore at n) a = (refl, refl, refl, refl, refl, refl, refl, refl, length-set x.mail at n, refl, refl, refl)
 same_words x w (OutStore i n) a = (refl, refl, refl, refl, refl, refl, refl, refl, refl, length-set x.out i n, refl, refl)
 same_words x w (SlotTake slot) a = same_slot x slot None
-same_words x w (SlotPut slot chain load) a = same_slot x slot (Some chain)
+same_words x w (SlotPut slot chain cargo) a = same_slot x slot (Some chain)
 same_words x w _ a = itself x
 
 sized_words : (x y : Words) (crew : ℕ) → SizedWords x crew → SameWords x y → SizedWords y crew
@@ -71,20 +73,20 @@ sized_words x y crew r s = record {
   out = s.9 ∙ r.out;
 }
 
--- ---- loads
+-- ---- what goes with the chains
 
-abbrev SameLoads : Loads → Loads → Type 0
-SameLoads ls ms = (length ms.cells ≡ length ls.cells) × (length ms.mail ≡ length ls.mail)
+abbrev SameCargoes : Cargoes → Cargoes → Type 0
+SameCargoes ls ms = (length ms.cells ≡ length ls.cells) × (length ms.mail ≡ length ls.mail)
 
-same_load : (ls : Loads) (slot : Slot) (load : Load) → SameLoads ls (with_load ls slot load)
-same_load ls (Cell c) load = (length-set ls.cells c load, refl)
-same_load ls (Mail at) load = (refl, length-set ls.mail at load)
+same_cargo : (ls : Cargoes) (slot : Slot) (cargo : Cargo) → SameCargoes ls (with_cargo ls slot cargo)
+same_cargo ls (Cell c) cargo = (length-set ls.cells c cargo, refl)
+same_cargo ls (Mail at) cargo = (refl, length-set ls.mail at cargo)
 
-same_ready : (b : Bool) (c : ℕ) (ls : Loads) → SameLoads ls (ready_load b c ls)
-same_ready true c ls = same_load ls (Cell c) _
+same_ready : (b : Bool) (c : ℕ) (ls : Cargoes) → SameCargoes ls (ready_cargo b c ls)
+same_ready true c ls = same_cargo ls (Cell c) _
 same_ready false c ls = (refl, refl)
 
-same_stored : (v : View) (ls : Loads) (c : ℕ) (word : CellWord) (n : ℕ) → SameLoads ls (loads_after v ls (CellStore c word n))
+same_stored : (v : View) (ls : Cargoes) (c : ℕ) (word : CellWord) (n : ℕ) → SameCargoes ls (cargoes_after v ls (CellStore c word n))
 same_stored v ls c Owner n = (refl, refl)
 same_stored v ls c State n = (refl, refl)
 same_stored v ls c Value n = (refl, refl)
@@ -92,29 +94,46 @@ same_stored v ls c Next n = (refl, refl)
 same_stored v ls c Standing n = same_ready ((n == ready) && in_hand c v.hand) c ls
 same_stored v ls c Trap n = (refl, refl)
 
-same_loads : (v : View) (ls : Loads) (s : Step) → SameLoads ls (loads_after v ls s)
-same_loads v ls (CellStore c word n) = same_stored v ls c word n
-same_loads v ls (SlotTake slot) = same_load ls slot no_load
-same_loads v ls (SlotPut slot chain load) = same_load ls slot load
-same_loads v ls _ = (refl, refl)
+same_cargoes : (v : View) (ls : Cargoes) (s : Step) → SameCargoes ls (cargoes_after v ls s)
+same_cargoes v ls (CellStore c word n) = same_stored v ls c word n
+same_cargoes v ls (SlotTake slot) = same_cargo ls slot no_cargo
+same_cargoes v ls (SlotPut slot chain cargo) = same_cargo ls slot cargo
+same_cargoes v ls _ = (refl, refl)
 
 -- ---- both
 
-stays_sized : (x y : Words) (ls ms : Loads) (vs : List View) (w : ℕ) (v : View) → Sized x ls vs → w < length vs → SameSizes (view_at vs w) v → SameWords x y → SameLoads ls ms → Sized y ms (slice_set vs w v)
+stays_sized : (x y : Words) (ls ms : Cargoes) (vs : List View) (w : ℕ) (v : View) → Sized x ls vs → w < length vs → SameSizes (view_at vs w) v → SameWords x y → SameCargoes ls ms → Sized y ms (slice_set vs w v)
 stays_sized x y ls ms vs w v r l same s t =
     let long : length (slice_set vs w v) ≡ length vs = length-set vs w v in
     let all : SizedViews (slice_set vs w v) (length x.owners) (length x.stack) = sized_moved vs (length x.owners) (length x.stack) w v r.views l same in
     record {
       words = subst (λ (n : ℕ). SizedWords y n) (sym long) (sized_words x y (length vs) r.words s);
-      loads = record { cells = t.0 ∙ r.loads.cells ∙ sym s.1; mail = t.1 ∙ r.loads.mail ∙ sym long };
+      cargoes = record { cells = t.0 ∙ r.cargoes.cells ∙ sym s.1; mail = t.1 ∙ r.cargoes.mail ∙ sym long };
       views = subst (λ (n : ℕ). SizedViews (slice_set vs w v) n (length y.stack)) (sym s.1) (subst (λ (n : ℕ). SizedViews (slice_set vs w v) (length x.owners) n) (sym s.0) all);
     }
 
-pub board_sized : (x y : Words) (ls ms : Loads) (vs us : List View) (w : ℕ) (s : Step) (a : Answer) (says : Step → Answer → Type 0) (after : View → Step → Answer → View) → Sized x ls vs → w < length vs → Asks says IsFree Does after (view_at vs w) s → says s a → y ≡ words_after x w s a → ms ≡ loads_after (view_at vs w) ls s → us ≡ views_after after vs w s a → Sized y ms us
+pub board_sized : (x y : Words) (ls ms : Cargoes) (vs us : List View) (w : ℕ) (s : Step) (a : Answer) (says : Step → Answer → Type 0) (after : View → Step → Answer → View) → Sized x ls vs → w < length vs → Asks says IsFree Does after (view_at vs w) s → says s a → y ≡ words_after x w s a → ms ≡ cargoes_after (view_at vs w) ls s → us ≡ views_after after vs w s a → Sized y ms us
 board_sized x y ls ms vs us w s a says after r l may said ey em eu =
     let v : View = after (view_at vs w) s a in
     subst (λ (z : List View). Sized y ms z) (sym eu) (stays_sized x y ls ms vs w v r l (asked_sizes says after (view_at vs w) s a may said)
-    (subst (λ (z : Words). SameWords x z) (sym ey) (same_words x w s a)) (subst (λ (z : Loads). SameLoads ls z) (sym em) (same_loads (view_at vs w) ls s)))
+    (subst (λ (z : Words). SameWords x z) (sym ey) (same_words x w s a)) (subst (λ (z : Cargoes). SameCargoes ls z) (sym em) (same_cargoes (view_at vs w) ls s)))
 
-pub board_left : (x y : Words) (ls ms : Loads) (vs us : List View) (w : ℕ) (s : Step) (a : Answer) (after : View → Step → Answer → View) → y ≡ words_after x w s a → ms ≡ loads_after (view_at vs w) ls s → us ≡ views_after after vs w s a → Left x ls vs w s a y ms us
-board_left x y ls ms vs us w s a after ey em eu = record { words = ey; loads = em; workers = ap length eu ∙ length-set vs w (after (view_at vs w) s a) }
+-- the views after the step: the worker's is the one that was named, and the others stay
+view_there : (vs us : List View) (w : ℕ) (s : Step) (a : Answer) (after : View → Step → Answer → View) → w < length vs → us ≡ views_after after vs w s a → view_at us w ≡ after (view_at vs w) s a
+view_there vs us w s a after l e = subst (λ (z : List View). view_at z w ≡ after (view_at vs w) s a) (sym e) (moved_here vs w (after (view_at vs w) s a) l)
+
+serves_still : (vs us : List View) (w x : ℕ) (s : Step) (a : Answer) (after : View → Step → Answer → View) → x < length vs → us ≡ views_after after vs w s a → x < length us
+serves_still vs us w x s a after l e = subst (λ (n : ℕ). x < n) (sym (ap length e ∙ length-set vs w (after (view_at vs w) s a))) l
+
+other_there : (vs us : List View) (w x : ℕ) (s : Step) (a : Answer) (after : View → Step → Answer → View) → x ≢ w → us ≡ views_after after vs w s a → view_at us x ≡ view_at vs x
+other_there vs us w x s a after n e = subst (λ (z : List View). view_at z x ≡ view_at vs x) (sym e) (moved_other vs w x (after (view_at vs w) s a) n)
+
+pub board_made : (after : View → Step → Answer → View) (old new : PlainBoard) (w : ℕ) (s : Step) (a : Answer) → w < length old.kept.views → Exact old.words old.kept.cargoes w s a → new.words ≡ words_after old.words w s a → new.kept.cargoes ≡ cargoes_after (view_at old.kept.views w) old.kept.cargoes s → new.kept.views ≡ views_after after old.kept.views w s a →
+    StepMade (λ (b : PlainBoard) (w : ℕ). view_at b.kept.views w) (λ (b : PlainBoard) (w : ℕ). w < length b.kept.views) (λ (b : PlainBoard) (w : ℕ) (s : Step) (a : Answer). Exact b.words b.kept.cargoes w s a) (λ (b : PlainBoard) (w : ℕ) (s : Step) (a : Answer) (c : PlainBoard). Left b.words b.kept.cargoes b.kept.views w s a c.words c.kept.cargoes c.kept.views) after old w s a new
+board_made after old new w s a l said ey em eu = record {
+  said = said;
+  did = record { words = ey; cargoes = em; workers = ap length eu ∙ length-set old.kept.views w (after (view_at old.kept.views w) s a) };
+  view = view_there old.kept.views new.kept.views w s a after l eu;
+  serves = serves_still old.kept.views new.kept.views w w s a after l eu;
+  others = λ other n served. (serves_still old.kept.views new.kept.views w other s a after served eu, other_there old.kept.views new.kept.views w other s a after n eu);
+}

@@ -1,7 +1,7 @@
 -- What a test shows that makes steps of a board on which its worker has come to hold a thread, a chain in its turn and an exported frame
 -- (busy): that a step may be asked there (busy_asks), and that a held word is held behind stores and loads. For the first step of a board of
 -- 16 cells and two workers there is one for each kind of step that is tried: asks_cell_load and so on.
-use Rattle.std.proofs.Common.{ℕ, ◌<◌, ◌/◌, ◌≡◌, ◌∷◌, [], length, Some, inl, inr, refl, sym, ap, ◌∙◌, subst, arith}
+use Rattle.std.proofs.Common.{ℕ, ◌<◌, ◌/◌, ◌≡◌, ◌∷◌, [], length, Some, None, inl, inr, refl, sym, ap, ◌∙◌, subst, arith}
 use Rattle.std.specs.List.{Contains}
 use Rattle.st_base.specs.declared.limits.Limits.{Limits}
 use Rattle.st_base.specs.declared.chain.Chain.{Chain}
@@ -12,7 +12,7 @@ use Rattle.st_words.specs.declared.view.View.{View}
 use Rattle.st_words.specs.Laws.{named}
 use Rattle.st_words.specs.Plain.{first_view, first_held}
 use Rattle.st_words.specs.Steps.{Step, StackStore, StackLoad, Mark, CellLoad, CellStore, CellChange, StopSet, RequestLoad, RequestChange, MailStore, OutStore, OutLoad, SlotPut, Answer, Done, Number, Can, Asks, Holds, HasThread, kept}
-use Rattle.st_words.specs.Views.{Progress, Does, IsFree, view_after, Free, with_free, no_known, no_load}
+use Rattle.st_words.specs.Views.{Progress, Does, IsFree, view_after, Free, with_free, no_known, no_cargo}
 use Rattle.st_words.proofs.Naming.{named_asks, store_laws, size_laws}
 use Rattle.st_words.proofs.Sizes.{held_bound}
 
@@ -20,10 +20,10 @@ abbrev pub busy_progress : Progress
 busy_progress = record { threads = no_known ∷ []; items = 0; frame_bytes = 0 }
 
 abbrev pub busy_chain : Carried
-busy_chain = record no_load.carried { known = record no_known { note = record { cell = 5; forks = 0; counters = 0; bytes = 0 } } }
+busy_chain = record no_cargo.carried { known = record no_known { note = record { cell = 5; forks = 0; counters = 0; bytes = 0 } } }
 
 abbrev pub busy_free : Free
-busy_free = record { progress = busy_progress; chains = busy_chain ∷ []; names = []; exported = record { low = 0x8000_0000; base = 0x8000_0010 } ∷ [] }
+busy_free = record { progress = busy_progress; child = None; chains = busy_chain ∷ []; exported = record { low = 0x8000_0000; base = 0x8000_0010 } ∷ [] }
 
 abbrev pub busy : View → View
 busy v = with_free busy_free v
@@ -91,5 +91,5 @@ asks_out_store says v = busy_asks says v (OutStore 3 321) (omega arith, busy_thr
 pub asks_out_load : (says : Step → Answer → Type 0) (v : View) → FirstAsks says v (OutLoad 1048575)
 asks_out_load says v = busy_asks says v (OutLoad 1048575) (omega arith)
 
-pub asks_slot_put : (says : Step → Answer → Type 0) (limits : Limits) (v : View) (chain : Chain) → limits.cells ≡ 16 → v ≡ first_view limits 2 0 → chain.cell ≡ 5 → FirstAsks says v (SlotPut (Cell 5) chain no_load)
-asks_slot_put says limits v chain cells first at = first_asks says limits v (SlotPut (Cell 5) chain no_load) first (omega arith, (at, (busy_chain, (0, omega arith, refl), refl)), omega arith, omega arith)
+pub asks_slot_put : (says : Step → Answer → Type 0) (limits : Limits) (v : View) (chain : Chain) → limits.cells ≡ 16 → v ≡ first_view limits 2 0 → chain.cell ≡ 5 → FirstAsks says v (SlotPut (Cell 5) chain no_cargo)
+asks_slot_put says limits v chain cells first at = first_asks says limits v (SlotPut (Cell 5) chain no_cargo) first (omega arith, (at, (busy_chain, (0, omega arith, refl), refl)), omega arith, omega arith)

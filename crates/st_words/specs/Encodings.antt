@@ -1,7 +1,11 @@
 -- What the words of the board stand for. owner_word, is_counter: who a cell belongs to; full_word: a full future; count_in, head_in and
 -- counter_word: the count of a counter and the head of its waiters; stop_code: a limit; asking, answering_word and the mail words; printed:
 -- a byte of the output.
-use Rattle.std.specs.Prelude.{◌≡◌, ◌⊎◌, ℕ, ◌+◌, ◌*◌, ◌-◌, ◌/◌, ◌%◌, ◌^◌, ◌≤◌, Bool, ◌==◌, nat_lt, if◌then◌else◌}
+use Rattle.std.specs.Prelude.{◌≡◌, ◌⊎◌, ℕ, ◌+◌, ◌*◌, ◌-◌, ◌/◌, ◌%◌, ◌^◌, ◌≤◌, Bool, ◌==◌, nat_lt, if◌then◌else◌, Option, Some, None}
+use Rattle.st_base.specs.declared.thread.TrapKind.{TrapKind}
+use Rattle.st_base.specs.declared.thread.TrapKind.TheVariants as traps
+use Rattle.st_base.specs.declared.thread.Standing.{Standing}
+use Rattle.st_base.specs.declared.thread.Standing.TheVariants as standings
 
 -- ---- Owner: 0 not named; else 1 + kind + 2 * parent + 2 ^ 18 * number, kind 0 for a thread and 1 for a counter; the root has 1
 
@@ -39,11 +43,36 @@ count_after count = if nat_lt count (2 ^ 47 - 1) then count + 1 else count
 abbrev pub running : ℕ
 running = 1
 
+abbrev pub waits_word : ℕ
+waits_word = 2
+
 abbrev pub ready : ℕ
 ready = 3
 
+abbrev pub trapped : ℕ
+trapped = 4
+
 abbrev pub ended : ℕ
 ended = 5
+
+-- ---- Trap: pc * 16 + kind, kind 0 a touch or a join, 15 the full output
+
+abbrev pub trap_word : ℕ → ℕ → ℕ
+trap_word pc kind = pc * 16 + kind
+
+abbrev pub trap_number : TrapKind → ℕ
+trap_number traps.LoadRange = 1
+trap_number traps.Misaligned = 2
+trap_number traps.WrongHandle = 3
+trap_number traps.PutInChild = 4
+trap_number traps.Abort = 5
+
+-- a thread that has stopped, by a trap or the full output
+abbrev pub stop_kind : Standing → Option ℕ
+stop_kind standings.Going = None
+stop_kind (standings.Ended value) = None
+stop_kind (standings.Trapped kind line) = Some (trap_number kind)
+stop_kind standings.Full = Some 15
 
 -- ---- Stop: kind + 256 * worker + 2 ^ 16 * frame, kind 1 Stack, 2 Cell, 3 Step
 

@@ -2,7 +2,7 @@
 -- frames, chains or waiters' numbers. They speak of view_after, and hold of what `named` gives, which differs in the threads and two numbers
 -- alone. Where a law asks that frames have one return word each (OneEach), what the worker knows of its leased frames has to yield it: that
 -- they are apart is enough (MarkLaws, `apart`).
-use Rattle.std.specs.Prelude.{◌≡◌, ◌≢◌, ◌⊎◌, ℕ, ◌+◌, ◌<◌, ◌^◌, true, false, List, [], ◌∷◌, length, Option, Some, None, if◌then◌else◌}
+use Rattle.std.specs.Prelude.{refl, ◌≡◌, ◌≢◌, ◌⊎◌, ℕ, ◌+◌, ◌<◌, ◌^◌, true, false, List, [], ◌∷◌, length, Option, Some, None, if◌then◌else◌}
 use Rattle.std.specs.List.{Contains}
 use Rattle.st_base.specs.declared.chain.Chain.{Chain}
 use Rattle.st_base.specs.declared.chain.Frame.{Frame}
@@ -13,14 +13,15 @@ use Rattle.st_words.specs.declared.view.CellWord.TheVariants.{Next, Standing}
 use Rattle.st_words.specs.declared.view.Slot.{Slot}
 use Rattle.st_words.specs.declared.view.Slot.TheVariants.{Cell}
 use Rattle.st_words.specs.declared.view.Carried.{Carried}
-use Rattle.st_words.specs.declared.view.Load.{Load}
+use Rattle.st_words.specs.declared.view.Cargo.{Cargo}
 use Rattle.st_words.specs.declared.view.Waiter.{Waiter}
 use Rattle.st_words.specs.declared.view.View.{View}
 use Rattle.st_words.specs.Encodings.{full_word, count_in, head_in, counter_word, is_counter, ready}
-use Rattle.st_words.specs.Steps.{Step, StackStore, Mark, Look, CellLoad, CellStore, CellChange, SlotTake, SlotPut, Answer, Done, Number, Looked, Took, place_of, home_of, return_place, Inside, kept, Holds, IsLeased, HasChain, HasInHand}
-use Rattle.st_words.specs.Views.{Progress, with_progress, view_after, Does, remade, is_inside, counts_cell, owner_seen, common_wait}
+use Rattle.st_words.specs.Steps.{Step, StackStore, Mark, Look, CellLoad, CellStore, CellChange, SlotTake, SlotPut, Answer, Done, Number, Looked, Took, place_of, home_of, return_place, Inside, kept, Holds, IsLeased, HasChain, HasInHand, IsWaiting}
+use Rattle.st_words.specs.Views.{Progress, with_progress, view_after, Does, IsFree, remade, is_inside, counts_cell, owner_seen, common_wait}
 use Rattle.st_words.specs.Promises.{Promises}
-use Rattle.st_words.specs.Careful.{MayCarry, KnowsNames}
+use Rattle.st_words.specs.Careful.{MayCarry}
+use Rattle.st_words.specs.Names.{KnowsNames}
 
 -- ---- naming
 
@@ -31,6 +32,13 @@ named x u s a = with_progress x (view_after u s a)
 -- what its threads have come to before it
 abbrev pub progress_of : View → Progress
 progress_of v = record { threads = v.threads; items = v.items; frame_bytes = v.frame_bytes }
+
+-- nothing was done before a step, and nothing by it but the step
+abbrev pub stays : (v : View) → IsFree v v
+stays v = (record { progress = progress_of v; child = v.child; chains = v.chains; exported = v.exported }, refl)
+
+abbrev pub does_alone : (v : View) (s : Step) (a : Answer) → Does v s a (view_after v s a)
+does_alone v s a = (progress_of (view_after v s a), refl)
 
 abbrev pub NamedIsWithin : Type 0
 NamedIsWithin = (x : Progress) (u : View) (s : Step) (a : Answer) → Does u s a (named x u s a)
@@ -77,61 +85,55 @@ pub record MarkLaws : Type 0 where
 
 pub record LookLaws : Type 0 where
   -- at 0 the words of the frame come in, as they are told
-  pub takes_back : (u : View) (f : Frame) (load : Load) (q : ℕ) → OneEach u → Contains u.exported f → return_place f < length u.held → Promises u (Look (return_place f)) (Looked 0 load) → Inside f q → (m : ℕ) × (kept load.words q ≡ Some m) × (kept (view_after u (Look (return_place f)) (Looked 0 load)).held q ≡ Some m)
-  pub others : (u : View) (f : Frame) (load : Load) (q : ℕ) → OneEach u → Contains u.exported f → (Inside f q → ⊥) → kept (view_after u (Look (return_place f)) (Looked 0 load)).held q ≡ kept u.held q
-  pub gone : (u : View) (f : Frame) (load : Load) → Contains u.exported f → Contains (view_after u (Look (return_place f)) (Looked 0 load)).exported f → ⊥
-  pub stay : (u : View) (p n : ℕ) (load : Load) (f : Frame) → return_place f ≢ p → Contains u.exported f → Contains (view_after u (Look p) (Looked n load)).exported f
-  pub were : (u : View) (p n : ℕ) (load : Load) (f : Frame) → Contains (view_after u (Look p) (Looked n load)).exported f → Contains u.exported f
-  pub away : (u : View) (p n : ℕ) (load : Load) → (view_after u (Look p) (Looked n load)).away ≡ u.away
+  pub takes_back : (u : View) (f : Frame) (cargo : Cargo) (q : ℕ) → OneEach u → Contains u.exported f → return_place f < length u.held → Promises u (Look (return_place f)) (Looked 0 cargo) → Inside f q → (m : ℕ) × (kept cargo.words q ≡ Some m) × (kept (view_after u (Look (return_place f)) (Looked 0 cargo)).held q ≡ Some m)
+  pub others : (u : View) (f : Frame) (cargo : Cargo) (q : ℕ) → OneEach u → Contains u.exported f → (Inside f q → ⊥) → kept (view_after u (Look (return_place f)) (Looked 0 cargo)).held q ≡ kept u.held q
+  pub gone : (u : View) (f : Frame) (cargo : Cargo) → Contains u.exported f → Contains (view_after u (Look (return_place f)) (Looked 0 cargo)).exported f → ⊥
+  pub stay : (u : View) (p n : ℕ) (cargo : Cargo) (f : Frame) → return_place f ≢ p → Contains u.exported f → Contains (view_after u (Look p) (Looked n cargo)).exported f
+  pub were : (u : View) (p n : ℕ) (cargo : Cargo) (f : Frame) → Contains (view_after u (Look p) (Looked n cargo)).exported f → Contains u.exported f
+  pub away : (u : View) (p n : ℕ) (cargo : Cargo) → (view_after u (Look p) (Looked n cargo)).away ≡ u.away
   -- at another word nothing changes
-  pub alive : (u : View) (p n : ℕ) (load : Load) → n ≢ 0 → view_after u (Look p) (Looked n load) ≡ u
+  pub alive : (u : View) (p n : ℕ) (cargo : Cargo) → n ≢ 0 → view_after u (Look p) (Looked n cargo) ≡ u
 
 -- ---- chains that are taken
 
-abbrev pub taking : View → Slot → Chain → Load → View
-taking u slot chain load = view_after u (SlotTake slot) (Took (Some chain) load)
+abbrev pub taking : View → Slot → Chain → Cargo → View
+taking u slot chain cargo = view_after u (SlotTake slot) (Took (Some chain) cargo)
 
 pub record TakeLaws : Type 0 where
-  pub found : (u : View) (slot : Slot) (load : Load) → Promises u (SlotTake slot) (Took None load) → ⊥
-  pub words : (u : View) (slot : Slot) (chain : Chain) (load : Load) (p n : ℕ) → Promises u (SlotTake slot) (Took (Some chain) load) → kept load.words p ≡ Some n → kept (taking u slot chain load).held p ≡ Some n
-  pub others : (u : View) (slot : Slot) (chain : Chain) (load : Load) (p : ℕ) → kept load.words p ≡ None → kept (taking u slot chain load).held p ≡ kept u.held p
+  pub found : (u : View) (slot : Slot) (cargo : Cargo) → Promises u (SlotTake slot) (Took None cargo) → ⊥
+  pub words : (u : View) (slot : Slot) (chain : Chain) (cargo : Cargo) (p n : ℕ) → Promises u (SlotTake slot) (Took (Some chain) cargo) → kept cargo.words p ≡ Some n → kept (taking u slot chain cargo).held p ≡ Some n
+  pub others : (u : View) (slot : Slot) (chain : Chain) (cargo : Cargo) (p : ℕ) → kept cargo.words p ≡ None → kept (taking u slot chain cargo).held p ≡ kept u.held p
   -- all its frames are leased ones of which the worker knows
-  pub frames : (u : View) (slot : Slot) (chain : Chain) (load : Load) (f : Frame) → Promises u (SlotTake slot) (Took (Some chain) load) → Contains load.frames f → IsLeased (taking u slot chain load) f
-  pub stay : (u : View) (slot : Slot) (chain : Chain) (load : Load) (f : Frame) → IsLeased u f → IsLeased (taking u slot chain load) f
-  pub were : (u : View) (slot : Slot) (chain : Chain) (load : Load) (f : Frame) → IsLeased (taking u slot chain load) f → IsLeased u f ⊎ Contains load.frames f
-  pub away : (u : View) (slot : Slot) (chain : Chain) (load : Load) (f : Frame) → Contains (taking u slot chain load).away f → Contains u.away f ⊎ Contains load.frames f
-  pub exported : (u : View) (slot : Slot) (chain : Chain) (load : Load) → (taking u slot chain load).exported ≡ u.exported
-  pub chain : (u : View) (slot : Slot) (chain : Chain) (load : Load) → Promises u (SlotTake slot) (Took (Some chain) load) → Contains (taking u slot chain load).chains load.carried × HasChain (taking u slot chain load) chain.cell
-  pub chains : (u : View) (slot : Slot) (chain : Chain) (load : Load) (x : Carried) → Contains u.chains x → Contains (taking u slot chain load).chains x
-  pub names : (u : View) (slot : Slot) (chain : Chain) (load : Load) (name : Held) (c : ℕ) → Contains load.names (name, c) ⊎ Contains u.names (name, c) → Contains (taking u slot chain load).names (name, c)
+  pub frames : (u : View) (slot : Slot) (chain : Chain) (cargo : Cargo) (f : Frame) → Promises u (SlotTake slot) (Took (Some chain) cargo) → Contains cargo.frames f → IsLeased (taking u slot chain cargo) f
+  pub stay : (u : View) (slot : Slot) (chain : Chain) (cargo : Cargo) (f : Frame) → IsLeased u f → IsLeased (taking u slot chain cargo) f
+  pub were : (u : View) (slot : Slot) (chain : Chain) (cargo : Cargo) (f : Frame) → IsLeased (taking u slot chain cargo) f → IsLeased u f ⊎ Contains cargo.frames f
+  pub away : (u : View) (slot : Slot) (chain : Chain) (cargo : Cargo) (f : Frame) → Contains (taking u slot chain cargo).away f → Contains u.away f ⊎ Contains cargo.frames f
+  pub exported : (u : View) (slot : Slot) (chain : Chain) (cargo : Cargo) → (taking u slot chain cargo).exported ≡ u.exported
+  pub chain : (u : View) (slot : Slot) (chain : Chain) (cargo : Cargo) → Promises u (SlotTake slot) (Took (Some chain) cargo) → Contains (taking u slot chain cargo).chains cargo.carried × HasChain (taking u slot chain cargo) chain.cell
+  pub chains : (u : View) (slot : Slot) (chain : Chain) (cargo : Cargo) (x : Carried) → Contains u.chains x → Contains (taking u slot chain cargo).chains x
+  pub names : (u : View) (slot : Slot) (chain : Chain) (cargo : Cargo) (name : Held) (c : ℕ) → Contains cargo.names (name, c) ⊎ Contains u.names (name, c) → Contains (taking u slot chain cargo).names (name, c)
   -- what a number in the hand waits for is known once its chain is taken
-  pub waits : (u : View) (c : ℕ) (chain : Chain) (load : Load) → HasInHand u c → (x : Waiter) × Contains (taking u (Cell c) chain load).hand x × (x.cell ≡ c) × (x.wait ≡ Some load.carried.wait)
+  pub waits : (u : View) (c : ℕ) (chain : Chain) (cargo : Cargo) → HasInHand u c → (x : Waiter) × Contains (taking u (Cell c) chain cargo).hand x × (x.cell ≡ c) × (x.wait ≡ Some cargo.carried.wait)
 
 -- ---- chains that are put
 
-abbrev pub putting : View → Slot → Chain → Load → View
-putting u slot chain load = view_after u (SlotPut slot chain load) Done
-
--- it waits for a future or a counter
-abbrev pub IsWaiting : Waiting → Type 0
-IsWaiting (waits.Touch cell) = Prim.Unit
-IsWaiting (waits.Join cell least) = Prim.Unit
-IsWaiting _ = ⊥
+abbrev pub putting : View → Slot → Chain → Cargo → View
+putting u slot chain cargo = view_after u (SlotPut slot chain cargo) Done
 
 pub record PutLaws : Type 0 where
-  pub words : (u : View) (slot : Slot) (chain : Chain) (load : Load) (p n : ℕ) → kept load.words p ≡ Some n → kept (putting u slot chain load).held p ≡ None
-  pub others : (u : View) (slot : Slot) (chain : Chain) (load : Load) (p : ℕ) → kept load.words p ≡ None → kept (putting u slot chain load).held p ≡ kept u.held p
-  pub gone : (u : View) (slot : Slot) (chain : Chain) (load : Load) (f : Frame) → Contains load.frames f → Contains (putting u slot chain load).away f → ⊥
-  pub stay : (u : View) (slot : Slot) (chain : Chain) (load : Load) (f : Frame) → (Contains load.frames f → ⊥) → Contains u.away f → Contains (putting u slot chain load).away f
-  pub were : (u : View) (slot : Slot) (chain : Chain) (load : Load) (f : Frame) → Contains (putting u slot chain load).away f → Contains u.away f
-  pub exported : (u : View) (slot : Slot) (chain : Chain) (load : Load) → (putting u slot chain load).exported ≡ u.exported
+  pub words : (u : View) (slot : Slot) (chain : Chain) (cargo : Cargo) (p n : ℕ) → kept cargo.words p ≡ Some n → kept (putting u slot chain cargo).held p ≡ None
+  pub others : (u : View) (slot : Slot) (chain : Chain) (cargo : Cargo) (p : ℕ) → kept cargo.words p ≡ None → kept (putting u slot chain cargo).held p ≡ kept u.held p
+  pub gone : (u : View) (slot : Slot) (chain : Chain) (cargo : Cargo) (f : Frame) → Contains cargo.frames f → Contains (putting u slot chain cargo).away f → ⊥
+  pub stay : (u : View) (slot : Slot) (chain : Chain) (cargo : Cargo) (f : Frame) → (Contains cargo.frames f → ⊥) → Contains u.away f → Contains (putting u slot chain cargo).away f
+  pub were : (u : View) (slot : Slot) (chain : Chain) (cargo : Cargo) (f : Frame) → Contains (putting u slot chain cargo).away f → Contains u.away f
+  pub exported : (u : View) (slot : Slot) (chain : Chain) (cargo : Cargo) → (putting u slot chain cargo).exported ≡ u.exported
   -- the chain is in the turn no more, and others are
-  pub chain : (u : View) (slot : Slot) (chain : Chain) (load : Load) → HasChain (putting u slot chain load) chain.cell → ⊥
-  pub chains : (u : View) (slot : Slot) (chain : Chain) (load : Load) (x : Carried) → x.known.note.cell ≢ chain.cell → Contains u.chains x → Contains (putting u slot chain load).chains x
+  pub chain : (u : View) (slot : Slot) (chain : Chain) (cargo : Cargo) → HasChain (putting u slot chain cargo) chain.cell → ⊥
+  pub chains : (u : View) (slot : Slot) (chain : Chain) (cargo : Cargo) (x : Carried) → x.known.note.cell ≢ chain.cell → Contains u.chains x → Contains (putting u slot chain cargo).chains x
   -- the number of a waiting chain is in the hand, and the numbers that were there stay
-  pub hand : (u : View) (c : ℕ) (chain : Chain) (load : Load) → IsWaiting chain.wait → HasInHand (putting u (Cell c) chain load) c
-  pub waits : (u : View) (c : ℕ) (chain : Chain) (load : Load) → IsWaiting chain.wait → (HasInHand u c → ⊥) → (x : Waiter) × Contains (putting u (Cell c) chain load).hand x × (x.cell ≡ c) × (x.wait ≡ Some chain.wait)
-  pub hands : (u : View) (slot : Slot) (chain : Chain) (load : Load) (x : Waiter) → Contains u.hand x → Contains (putting u slot chain load).hand x
+  pub hand : (u : View) (c : ℕ) (chain : Chain) (cargo : Cargo) → IsWaiting chain.wait → HasInHand (putting u (Cell c) chain cargo) c
+  pub waits : (u : View) (c : ℕ) (chain : Chain) (cargo : Cargo) → IsWaiting chain.wait → (HasInHand u c → ⊥) → (x : Waiter) × Contains (putting u (Cell c) chain cargo).hand x × (x.cell ≡ c) × (x.wait ≡ Some chain.wait)
+  pub hands : (u : View) (slot : Slot) (chain : Chain) (cargo : Cargo) (x : Waiter) → Contains u.hand x → Contains (putting u slot chain cargo).hand x
 
 -- ---- what goes with a chain that is put
 
@@ -144,8 +146,8 @@ abbrev pub words_of : List Frame → List (Option ℕ) → List (Option ℕ)
 words_of fs held = remade (inside_one fs) 0 held
 
 -- what goes with this chain of the turn, where it has these frames: their words, and the names that the worker knows
-abbrev pub load_of : View → Carried → List Frame → ℕ → Load
-load_of u x fs unit = record { carried = x; words = words_of fs u.held; frames = fs; names = u.names; unit = unit }
+abbrev pub cargo_of : View → Carried → List Frame → ℕ → Cargo
+cargo_of u x fs unit = record { carried = x; words = words_of fs u.held; frames = fs; names = u.names; unit = unit }
 
 -- what the worker shows of a chain of its turn that it puts
 pub record HasFrames (u : View) (chain : Chain) (x : Carried) (fs : List Frame) : Type 0 where
@@ -158,10 +160,10 @@ pub record HasFrames (u : View) (chain : Chain) (x : Carried) (fs : List Frame) 
   pub own : (f : Frame) → Contains fs f → home_of u.each (return_place f) ≡ u.number → Contains u.exported f
   pub knows : KnowsNames u
 
-pub record LoadLaws : Type 0 where
-  pub words : (u : View) (x : Carried) (fs : List Frame) (unit p n : ℕ) → kept (load_of u x fs unit).words p ≡ Some n → (kept u.held p ≡ Some n) × ((f : Frame) × Contains fs f × Inside f p)
-  pub whole : (u : View) (x : Carried) (fs : List Frame) (unit : ℕ) (f : Frame) (p n : ℕ) → Contains fs f → Inside f p → kept u.held p ≡ Some n → kept (load_of u x fs unit).words p ≡ Some n
-  pub may_carry : (u : View) (chain : Chain) (x : Carried) (fs : List Frame) (unit : ℕ) → HasFrames u chain x fs → MayCarry u chain (load_of u x fs unit)
+pub record CargoLaws : Type 0 where
+  pub words : (u : View) (x : Carried) (fs : List Frame) (unit p n : ℕ) → kept (cargo_of u x fs unit).words p ≡ Some n → (kept u.held p ≡ Some n) × ((f : Frame) × Contains fs f × Inside f p)
+  pub whole : (u : View) (x : Carried) (fs : List Frame) (unit : ℕ) (f : Frame) (p n : ℕ) → Contains fs f → Inside f p → kept u.held p ≡ Some n → kept (cargo_of u x fs unit).words p ≡ Some n
+  pub may_carry : (u : View) (chain : Chain) (x : Carried) (fs : List Frame) (unit : ℕ) → HasFrames u chain x fs → MayCarry u chain (cargo_of u x fs unit)
 
 -- ---- waiters' numbers
 

@@ -1,5 +1,5 @@
--- A board over vectors. Read Exact (what a step answers, by the words and slots), words_after (what it leaves of them), loads_after (what goes
--- with the chains in the slots, for contracts alone) and Left (what a step leaves of the board); first_words, first_views and first_loads are
+-- A board over vectors. Read Exact (what a step answers, by the words and slots), words_after (what it leaves of them), cargoes_after (what goes
+-- with the chains in the slots, for contracts alone) and Left (what a step leaves of the board); first_words, first_views and first_cargoes are
 -- those of a board that is opened.
 use Rattle.std.specs.Prelude.{◌≡◌, ℕ, ◌+◌, ◌*◌, ◌/◌, ◌%◌, ◌^◌, ◌-◌, Bool, true, false, ◌&&◌, ◌==◌, nat_le, nat_lt, List, [], length, map, replicate, Option, Some, None, slice_get, slice_set, slice_index_or, if◌then◌else◌}
 use Rattle.std.specs.List.{range_with_len}
@@ -13,12 +13,12 @@ use Rattle.st_words.specs.declared.view.CellWord.{CellWord}
 use Rattle.st_words.specs.declared.view.CellWord.TheVariants.{Owner, State, Value, Next, Standing, Trap}
 use Rattle.st_words.specs.declared.view.Slot.{Slot}
 use Rattle.st_words.specs.declared.view.Slot.TheVariants.{Cell, Mail}
-use Rattle.st_words.specs.declared.view.Load.{Load}
+use Rattle.st_words.specs.declared.view.Cargo.{Cargo}
 use Rattle.st_words.specs.declared.view.View.{View}
 use Rattle.st_words.specs.declared.words.Words.{Words}
 use Rattle.st_words.specs.Encodings.{ready, out_bytes}
 use Rattle.st_words.specs.Steps.{Step, StackLoad, StackStore, Mark, Look, CellLoad, CellStore, CellChange, Draw, ActiveAdd, ActiveLoad, StopLoad, StopSet, RootTake, RequestLoad, RequestChange, MailLoad, MailStore, OutStore, SlotTake, SlotPut, OutLoad, Answer, Done, Number, Looked, Took}
-use Rattle.st_words.specs.Views.{no_load, no_known, in_hand}
+use Rattle.st_words.specs.Views.{no_cargo, no_known, in_hand}
 
 -- ---- words
 
@@ -76,7 +76,7 @@ no_view = record {
   items = 0;
   frame_bytes = 0;
   drawn = [];
-  named = [];
+  child = None;
   owners = [];
   full = [];
   filled = [];
@@ -105,42 +105,45 @@ views_after after vs w s a = slice_set vs w (after (view_at vs w) s a)
 
 -- ---- what goes with the chains in the slots
 
-pub record Loads : Type 0 where
-  pub cells : List Load
-  pub mail : List Load
+pub record Cargoes : Type 0 where
+  pub cells : List Cargo
+  pub mail : List Cargo
 
-abbrev pub load_in : Loads → Slot → Load
-load_in ls (Cell c) = slice_index_or ls.cells c no_load
-load_in ls (Mail at) = slice_index_or ls.mail at no_load
+abbrev pub cargo_in : Cargoes → Slot → Cargo
+cargo_in ls (Cell c) = slice_index_or ls.cells c no_cargo
+cargo_in ls (Mail at) = slice_index_or ls.mail at no_cargo
 
-abbrev pub with_load : Loads → Slot → Load → Loads
-with_load ls (Cell c) load = record ls { cells = slice_set ls.cells c load }
-with_load ls (Mail at) load = record ls { mail = slice_set ls.mail at load }
+abbrev pub with_cargo : Cargoes → Slot → Cargo → Cargoes
+with_cargo ls (Cell c) cargo = record ls { cells = slice_set ls.cells c cargo }
+with_cargo ls (Mail at) cargo = record ls { mail = slice_set ls.mail at cargo }
 
--- a waiter that becomes ready counts as active from then on
-abbrev pub ready_load : Bool → ℕ → Loads → Loads
-ready_load true c ls = with_load ls (Cell c) (record (load_in ls (Cell c)) { unit = 1 })
-ready_load false c ls = ls
+-- a waiter that becomes ready counts as active from then on, and its Standing word is 3
+abbrev pub readied : Cargo → Cargo
+readied cargo = record cargo { carried = record cargo.carried { standing = Some ready }; unit = 1 }
+
+abbrev pub ready_cargo : Bool → ℕ → Cargoes → Cargoes
+ready_cargo true c ls = with_cargo ls (Cell c) (readied (cargo_in ls (Cell c)))
+ready_cargo false c ls = ls
 
 -- what a step of the worker with this view leaves of them
-abbrev pub loads_after : View → Loads → Step → Loads
-loads_after v ls (CellStore c Standing n) = ready_load ((n == ready) && in_hand c v.hand) c ls
-loads_after v ls (SlotTake slot) = with_load ls slot no_load
-loads_after v ls (SlotPut slot chain load) = with_load ls slot load
-loads_after v ls _ = ls
+abbrev pub cargoes_after : View → Cargoes → Step → Cargoes
+cargoes_after v ls (CellStore c Standing n) = ready_cargo ((n == ready) && in_hand c v.hand) c ls
+cargoes_after v ls (SlotTake slot) = with_cargo ls slot no_cargo
+cargoes_after v ls (SlotPut slot chain cargo) = with_cargo ls slot cargo
+cargoes_after v ls _ = ls
 
 -- ---- steps
 
 -- all words of the stacks are told at a look
-abbrev pub stack_load : Words → Load
-stack_load x = record no_load { words = map Some x.stack }
+abbrev pub stack_cargo : Words → Cargo
+stack_cargo x = record no_cargo { words = map Some x.stack }
 
 -- what a step of the worker w answers
-abbrev pub Exact : Words → Loads → ℕ → Step → Answer → Type 0
+abbrev pub Exact : Words → Cargoes → ℕ → Step → Answer → Type 0
 Exact x ls w (StackLoad p) (Number n) = slice_get x.stack p ≡ Some n
 Exact x ls w (StackStore p n) Done = Prim.Unit
 Exact x ls w (Mark p) Done = Prim.Unit
-Exact x ls w (Look p) (Looked n load) = (slice_get x.stack p ≡ Some n) × (load ≡ stack_load x)
+Exact x ls w (Look p) (Looked n cargo) = (slice_get x.stack p ≡ Some n) × (cargo ≡ stack_cargo x)
 Exact x ls w (CellLoad c word) (Number n) = slice_get (cell_words x word) c ≡ Some n
 Exact x ls w (CellStore c word n) Done = Prim.Unit
 Exact x ls w (CellChange c old new) (Number n) = slice_get x.states c ≡ Some n
@@ -155,8 +158,8 @@ Exact x ls w (RequestChange at old new) (Number n) = slice_get x.requests at ≡
 Exact x ls w MailLoad (Number n) = slice_get x.mail w ≡ Some n
 Exact x ls w (MailStore at n) Done = Prim.Unit
 Exact x ls w (OutStore i n) Done = Prim.Unit
-Exact x ls w (SlotTake slot) (Took chain load) = (in_slot x slot ≡ Some chain) × (load ≡ load_in ls slot)
-Exact x ls w (SlotPut slot chain load) Done = Prim.Unit
+Exact x ls w (SlotTake slot) (Took chain cargo) = (in_slot x slot ≡ Some chain) × (cargo ≡ cargo_in ls slot)
+Exact x ls w (SlotPut slot chain cargo) Done = Prim.Unit
 Exact x ls w (OutLoad i) (Number n) = slice_get x.out i ≡ Some n
 Exact _ _ _ _ _ = ⊥
 
@@ -183,13 +186,13 @@ words_after x w (RequestChange at old new) (Number n) = record x { requests = ch
 words_after x w (MailStore at n) a = record x { mail = slice_set x.mail at n }
 words_after x w (OutStore i n) a = record x { out = slice_set x.out i n }
 words_after x w (SlotTake slot) a = with_slot x slot None
-words_after x w (SlotPut slot chain load) a = with_slot x slot (Some chain)
+words_after x w (SlotPut slot chain cargo) a = with_slot x slot (Some chain)
 words_after x w _ a = x
 
 -- what a step of the worker w leaves of the board; `after` is what its caller names
-pub record Left (x : Words) (ls : Loads) (vs : List View) (w : ℕ) (s : Step) (a : Answer) (x' : Words) (ls' : Loads) (vs' : List View) : Type 0 where
+pub record Left (x : Words) (ls : Cargoes) (vs : List View) (w : ℕ) (s : Step) (a : Answer) (x' : Words) (ls' : Cargoes) (vs' : List View) : Type 0 where
   pub words : x' ≡ words_after x w s a
-  pub loads : ls' ≡ loads_after (view_at vs w) ls s
+  pub cargoes : ls' ≡ cargoes_after (view_at vs w) ls s
   pub workers : length vs' ≡ length vs
 
 -- ---- a board that is opened
@@ -218,9 +221,9 @@ abbrev pub root_chain : Chain
 root_chain = record { cell = 0; pc = 0; fp = 0; saved = replicate 11 0; note = root_note; wait = waits.Start }
 
 -- it goes with the root's thread, which the opener names, and counts as active
-abbrev pub root_load : Thread → Load
-root_load thread = record no_load {
-  carried = record { known = record no_known { note = root_note; thread = thread }; wait = waits.Start; trap = 0; standing = ready };
+abbrev pub root_cargo : Thread → Cargo
+root_cargo thread = record no_cargo {
+  carried = record { known = record no_known { note = root_note; thread = thread }; wait = waits.Start; trap = None; standing = Some ready };
   unit = 1;
 }
 
@@ -248,5 +251,5 @@ first_words limits workers = record {
   mail_slots = replicate workers None;
 }
 
-unfoldable pub first_loads : Limits → ℕ → Thread → Loads
-first_loads limits workers thread = record { cells = slice_set (replicate limits.cells no_load) 0 (root_load thread); mail = replicate workers no_load }
+unfoldable pub first_cargoes : Limits → ℕ → Thread → Cargoes
+first_cargoes limits workers thread = record { cells = slice_set (replicate limits.cells no_cargo) 0 (root_cargo thread); mail = replicate workers no_cargo }

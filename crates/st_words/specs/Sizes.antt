@@ -6,7 +6,7 @@ use Rattle.st_words.specs.declared.view.Slot.TheVariants.{Cell, Mail}
 use Rattle.st_words.specs.declared.view.View.{View}
 use Rattle.st_words.specs.declared.words.Words.{Words}
 use Rattle.st_words.specs.Encodings.{out_bytes}
-use Rattle.st_words.specs.Plain.{Loads, view_at}
+use Rattle.st_words.specs.Plain.{Cargoes, view_at}
 
 -- there is such a slot
 abbrev pub HasSlot : Words → Slot → Type 0
@@ -26,7 +26,7 @@ pub record SizedWords (x : Words) (workers : ℕ) : Type 0 where
   pub mail_slots : length x.mail_slots ≡ workers
   pub out : length x.out ≡ out_bytes
 
-pub record SizedLoads (ls : Loads) (count workers : ℕ) : Type 0 where
+pub record SizedCargoes (ls : Cargoes) (count workers : ℕ) : Type 0 where
   pub cells : length ls.cells ≡ count
   pub mail : length ls.mail ≡ workers
 
@@ -42,7 +42,7 @@ abbrev pub SizedViews : List View → ℕ → ℕ → Type 0
 SizedViews vs cells stack = (w : ℕ) → w < length vs → SizedView (length vs) cells stack w (view_at vs w)
 
 -- what a plain board keeps
-pub record Sized (x : Words) (ls : Loads) (vs : List View) : Type 0 where
+pub record Sized (x : Words) (ls : Cargoes) (vs : List View) : Type 0 where
   pub words : SizedWords x (length vs)
-  pub loads : SizedLoads ls (length x.owners) (length vs)
+  pub cargoes : SizedCargoes ls (length x.owners) (length vs)
   pub views : SizedViews vs (length x.owners) (length x.stack)

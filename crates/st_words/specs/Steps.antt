@@ -5,6 +5,7 @@ use Rattle.std.specs.Prelude.{◌≡◌, ◌≢◌, ◌⊎◌, ℕ, ◌+◌, ◌
 use Rattle.std.specs.List.{Contains}
 use Rattle.st_base.specs.declared.chain.Chain.{Chain}
 use Rattle.st_base.specs.declared.chain.Frame.{Frame}
+use Rattle.st_base.specs.declared.chain.Waiting.{Waiting}
 use Rattle.st_base.specs.declared.chain.Waiting.TheVariants as waits
 use Rattle.st_words.specs.declared.view.CellWord.{CellWord}
 use Rattle.st_words.specs.declared.view.CellWord.TheVariants.{Owner, State, Value, Next, Standing, Trap}
@@ -12,8 +13,9 @@ use Rattle.st_words.specs.declared.view.Slot.{Slot}
 use Rattle.st_words.specs.declared.view.Slot.TheVariants.{Cell, Mail}
 use Rattle.st_words.specs.declared.view.Known.{Known}
 use Rattle.st_words.specs.declared.view.Carried.{Carried}
-use Rattle.st_words.specs.declared.view.Load.{Load}
+use Rattle.st_words.specs.declared.view.Cargo.{Cargo}
 use Rattle.st_words.specs.declared.view.Waiter.{Waiter}
+use Rattle.st_words.specs.declared.view.Child.{Child}
 use Rattle.st_words.specs.declared.view.Answering.{Answering}
 use Rattle.st_words.specs.declared.view.View.{View}
 use Rattle.st_words.specs.Encodings.{thread_owner, counter_owner, is_counter, full_word, count_in, head_in, counter_word, count_after, IsStopCode, asking, answering_word, waiting, given, refused, printed}
@@ -39,15 +41,15 @@ pub data Step : Type 0 where
   OutStore : ℕ → ℕ → Step
   SlotTake : Slot → Step
   -- what goes with the chain is named by the caller, for contracts alone
-  SlotPut : Slot → Chain → Load → Step
+  SlotPut : Slot → Chain → Cargo → Step
   OutLoad : ℕ → Step
 
--- a number is the word that was found; a load is what a step tells for contracts alone
+-- a number is the word that was found; a cargo is what a step tells for contracts alone
 pub data Answer : Type 0 where
   Done : Answer
   Number : ℕ → Answer
-  Looked : ℕ → Load → Answer
-  Took : Option Chain → Load → Answer
+  Looked : ℕ → Cargo → Answer
+  Took : Option Chain → Cargo → Answer
 
 -- the word that a compare and exchange found
 abbrev pub found_by : ℕ → Result Prim.Unit ℕ → ℕ
@@ -98,9 +100,19 @@ HasInHand v c = (x : Waiter) × Contains v.hand x × (x.cell ≡ c)
 abbrev pub IsLinked : View → ℕ → ℕ → Type 0
 IsLinked v waiter head = (x : Waiter) × Contains v.hand x × (x.cell ≡ waiter) × (x.next ≡ Some head)
 
+-- it waits for a future or a counter
+abbrev pub IsWaiting : Waiting → Type 0
+IsWaiting (waits.Touch cell) = Prim.Unit
+IsWaiting (waits.Join cell least) = Prim.Unit
+IsWaiting _ = ⊥
+
 -- the waiter waits until the counter has at least this count
 abbrev pub IsJoining : View → ℕ → ℕ → ℕ → Type 0
 IsJoining v waiter counter least = (x : Waiter) × Contains v.hand x × (x.cell ≡ waiter) × (x.wait ≡ Some (waits.Join counter least))
+
+-- the cell is named for the next child
+abbrev pub IsChild : View → ℕ → Type 0
+IsChild v c = (x : Child) × (v.child ≡ Some x) × (x.cell ≡ c)
 
 -- ---- cells
 
@@ -114,16 +126,17 @@ IsFuture v c = ((owner : ℕ) × Contains v.owners (c, owner) × (is_counter own
 
 -- an Owner word: of the children and the counters of the thread in a cell
 abbrev pub IsOwner : ℕ → ℕ → Type 0
-IsOwner cells owner = (parent : ℕ) × (number : ℕ) × (parent < cells) × (number < cells) × ((owner ≡ thread_owner parent number) ⊎ (owner ≡ counter_owner parent number))
+IsOwner cells owner = (parent : ℕ) × (number : ℕ) × (parent < cells) × (number < 2 ^ 32) × ((owner ≡ thread_owner parent number) ⊎ (owner ≡ counter_owner parent number))
 
 -- who alone may store a word of a cell. Owner: who has drawn its number and not yet named it. Value: who holds the thread. Next: who has
--- the waiter's number in hand. Standing and Trap: who holds the thread or its chain, has its number in hand, has named it or made it full.
+-- the waiter's number in hand. Standing and Trap: who holds the thread or its chain, has its number in hand, has named it for a child or made it
+-- full.
 abbrev pub MayStore : View → ℕ → CellWord → ℕ → Type 0
 MayStore v c Owner n = Contains v.drawn c × IsOwner v.cells n
 MayStore v c State n = ⊥
 MayStore v c Value n = HasThread v c × (Contains v.full c → ⊥)
 MayStore v c Next n = HasInHand v c × (n ≤ v.cells)
-MayStore v c Standing n = (n ≤ 5) × (HasThread v c ⊎ (HasChain v c ⊎ (HasInHand v c ⊎ (Contains v.named c ⊎ Contains v.filled c))))
+MayStore v c Standing n = (n ≤ 5) × (HasThread v c ⊎ (HasChain v c ⊎ (HasInHand v c ⊎ (IsChild v c ⊎ Contains v.filled c))))
 MayStore v c Trap n = HasThread v c ⊎ HasChain v c
 
 -- the changes of a State word
@@ -210,6 +223,15 @@ IsSlot v (Mail at) = at < v.workers
 
 -- ---- what a worker may ask
 
+-- a load that may be made at the end of a run, where no item comes before it
+abbrev pub IsEndLoad : Step → Type 0
+IsEndLoad (CellLoad c Next) = ⊥
+IsEndLoad (CellLoad c word) = Prim.Unit
+IsEndLoad ActiveLoad = Prim.Unit
+IsEndLoad StopLoad = Prim.Unit
+IsEndLoad (OutLoad i) = Prim.Unit
+IsEndLoad _ = ⊥
+
 abbrev pub Can : View → Step → Type 0
 Can v (StackLoad p) = Holds v p
 Can v (StackStore p n) = Holds v p
@@ -230,7 +252,7 @@ Can v MailLoad = Prim.Unit
 Can v (MailStore at n) = (at < v.workers) × MayMail v at n
 Can v (OutStore i n) = (i < 1048576) × HasThread v 0 × ((forks : ℕ) × (byte : ℕ) × (byte < 256) × (n ≡ printed forks byte))
 Can v (SlotTake slot) = IsSlot v slot × MayTake v slot × (v.share + 1 < 2 ^ 32)
-Can v (SlotPut slot chain load) = IsSlot v slot × MayPut v slot chain × (load.unit ≤ 1) × (load.unit ≤ v.share)
+Can v (SlotPut slot chain cargo) = IsSlot v slot × MayPut v slot chain × (cargo.unit ≤ 1) × (cargo.unit ≤ v.share)
 Can v (OutLoad i) = i < 1048576
 
 -- What the caller of a step owes. First comes what the worker has done by itself since its last step, by `forward`, up to a view u in which

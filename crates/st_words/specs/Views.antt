@@ -5,6 +5,7 @@ use Rattle.std.specs.Prelude.{◌≡◌, ℕ, zero, suc, ◌+◌, ◌-◌, Bool,
 use Rattle.std.specs.List.{filter}
 use Rattle.st_base.specs.declared.chain.Chain.{Chain}
 use Rattle.st_base.specs.declared.thread.Held.{Held}
+use Rattle.st_base.specs.declared.thread.Held.TheVariants as held
 use Rattle.st_base.specs.declared.thread.Standing.TheVariants as standings
 use Rattle.st_base.specs.declared.chain.Frame.{Frame}
 use Rattle.st_base.specs.declared.chain.Waiting.{Waiting}
@@ -15,13 +16,14 @@ use Rattle.st_words.specs.declared.view.Slot.{Slot}
 use Rattle.st_words.specs.declared.view.Slot.TheVariants.{Cell, Mail}
 use Rattle.st_words.specs.declared.view.Known.{Known}
 use Rattle.st_words.specs.declared.view.Carried.{Carried}
-use Rattle.st_words.specs.declared.view.Load.{Load}
+use Rattle.st_words.specs.declared.view.Cargo.{Cargo}
 use Rattle.st_words.specs.declared.view.Waiter.{Waiter}
+use Rattle.st_words.specs.declared.view.Child.{Child}
 use Rattle.st_words.specs.declared.view.Answering.{Answering}
 use Rattle.st_words.specs.declared.view.Loaded.{Loaded}
 use Rattle.st_words.specs.declared.view.Loaded.TheVariants as words
 use Rattle.st_words.specs.declared.view.View.{View}
-use Rattle.st_words.specs.Encodings.{is_counter, full_word, count_in, head_in, ready, given, refused}
+use Rattle.st_words.specs.Encodings.{is_counter, full_word, count_in, head_in, running, ready, given, refused}
 use Rattle.st_words.specs.Steps.{Step, StackStore, Mark, Look, CellLoad, CellStore, CellChange, Draw, ActiveAdd, ActiveLoad, StopLoad, StopSet, RootTake, RequestChange, MailLoad, MailStore, SlotTake, SlotPut, OutLoad, Answer, Done, Number, Looked, Took, place_of, return_place, kept, home_of}
 
 -- ---- lists by numbers
@@ -108,9 +110,9 @@ abbrev pub taken_back : ℕ → List (Option ℕ) → Option Frame → View → 
 taken_back p words None v = v
 taken_back p words (Some f) v = record v { held = held_with f words v.held; exported = without_returning p v.exported }
 
-abbrev pub looked : ℕ → ℕ → Load → View → View
-looked p zero load v = taken_back p load.words (frame_returning p v.exported) v
-looked p (suc n) load v = v
+abbrev pub looked : ℕ → ℕ → Cargo → View → View
+looked p zero cargo v = taken_back p cargo.words (frame_returning p v.exported) v
+looked p (suc n) cargo v = v
 
 -- ---- cells
 
@@ -132,12 +134,30 @@ state_when c n false true v = record v { full = c ∷ v.full }
 state_when c n false false v = v
 
 -- a State word is read by what the worker knows of the cell
-abbrev pub with_state_by : Option ℕ → ℕ → ℕ → View → View
+-- what the name of a cell tells: true for a counter
+abbrev pub kind_of : Held → Option Bool
+kind_of (held.Number n) = None
+kind_of (held.Future path) = Some false
+kind_of (held.Counter maker number) = Some true
+
+abbrev pub kind_named : ℕ → List (Held × ℕ) → Option Bool
+kind_named c [] = None
+kind_named c (entry ∷ entries) = if entry.1 == c then kind_of entry.0 else kind_named c entries
+
+-- whether the worker knows the cell for a counter or a future: by the Owner word that it saw, else by the cell's name
+abbrev pub kind_by : Option ℕ → Option Bool → Option Bool
+kind_by (Some owner) named = Some (is_counter owner)
+kind_by None named = named
+
+abbrev pub kind_seen : ℕ → View → Option Bool
+kind_seen c v = kind_by (owner_seen c v.owners) (kind_named c v.names)
+
+abbrev pub with_state_by : Option Bool → ℕ → ℕ → View → View
 with_state_by None c n v = v
-with_state_by (Some owner) c n v = state_when c n (is_counter owner) (n == full_word) v
+with_state_by (Some counter) c n v = state_when c n counter (n == full_word) v
 
 abbrev pub with_state : ℕ → ℕ → View → View
-with_state c n v = with_state_by (owner_seen c v.owners) c n v
+with_state c n v = with_state_by (kind_seen c v) c n v
 
 abbrev pub with_value : ℕ → ℕ → Bool → View → View
 with_value c n true v = record v { values = (c, n) ∷ v.values }
@@ -178,23 +198,51 @@ without_waiter c hand = filter (λ x. not (x.cell == c)) hand
 
 -- the Trap and Standing words of a chain in the turn
 abbrev pub with_trap : ℕ → ℕ → List Carried → List Carried
-with_trap c n chains = map (λ (x : Carried). if x.known.note.cell == c then record x { trap = n } else x) chains
+with_trap c n chains = map (λ (x : Carried). if x.known.note.cell == c then record x { trap = Some n } else x) chains
 
 abbrev pub with_standing : ℕ → ℕ → List Carried → List Carried
-with_standing c n chains = map (λ (x : Carried). if x.known.note.cell == c then record x { standing = n } else x) chains
+with_standing c n chains = map (λ (x : Carried). if x.known.note.cell == c then record x { standing = Some n } else x) chains
 
 -- a waiter in hand whose Standing becomes ready: a unit of the share is now its chain's
 abbrev pub made_ready : Bool → ℕ → View → View
 made_ready true c v = record v { hand = without_waiter c v.hand; ready = c ∷ v.ready; share = v.share - 1 }
 made_ready false c v = v
 
+-- the Standing word of the next child becomes 1
+abbrev pub child_stands : ℕ → Option Child → Option Child
+child_stands c None = None
+child_stands c (Some x) = if x.cell == c then Some (record x { stands = true }) else Some x
+
+abbrev pub made_running : Bool → ℕ → View → View
+made_running true c v = record v { child = child_stands c v.child }
+made_running false c v = v
+
 abbrev pub stood : ℕ → ℕ → View → View
-stood c n v = made_ready ((n == ready) && in_hand c v.hand) c (record v { chains = with_standing c n v.chains })
+stood c n v = made_ready ((n == ready) && in_hand c v.hand) c (made_running (n == running) c (record v { chains = with_standing c n v.chains }))
+
+-- a cell is named for the next counter or the next child of the top thread
+abbrev pub name_for : Bool → Known → Held
+name_for true t = held.Counter t.path t.note.counters
+name_for false t = held.Future (t.path ++ t.note.forks ∷ [])
+
+abbrev pub with_name : Bool → ℕ → List Known → List (Held × ℕ) → List (Held × ℕ)
+with_name counter c [] names = names
+with_name counter c (t ∷ ts) names = (name_for counter t, c) ∷ names
+
+abbrev pub child_named : Bool → ℕ → Option Child → Option Child
+child_named true c child = child
+child_named false c child = Some (record { cell = c; stands = false })
+
+abbrev pub named_cell : Bool → ℕ → ℕ → View → View
+named_cell counter c n v = record v { drawn = without_number c v.drawn; child = child_named counter c v.child; owners = (c, n) ∷ v.owners; names = with_name counter c v.threads v.names }
+
+abbrev pub other_cell : ℕ → ℕ × ℕ → Bool
+other_cell c entry = not (is_at c entry)
 
 abbrev pub cell_stored : ℕ → CellWord → ℕ → View → View
-cell_stored c Owner n v = record v { drawn = without_number c v.drawn; named = c ∷ v.named; owners = (c, n) ∷ v.owners }
+cell_stored c Owner n v = named_cell (is_counter n) c n v
 cell_stored c State n v = v
-cell_stored c Value n v = record v { valued = (c, n) ∷ v.valued }
+cell_stored c Value n v = record v { valued = (c, n) ∷ filter (other_cell c) v.valued }
 cell_stored c Next n v = record v { hand = linked c n v.hand }
 cell_stored c Standing n v = stood c n v
 cell_stored c Trap n v = record v { chains = with_trap c n v.chains }
@@ -291,40 +339,40 @@ mail_sent false n v = record v { answering = answered v.answering }
 -- ---- slots
 
 -- a chain that is taken comes into the turn with its frames, their words and its names
-abbrev pub taken_in : Load → View → View
-taken_in load v = record v {
-  held = held_and load.words v.held;
-  away = foreign v load.frames ++ v.away;
-  chains = load.carried ∷ v.chains;
-  names = load.names ++ v.names;
-  share = v.share + load.unit;
+abbrev pub taken_in : Cargo → View → View
+taken_in cargo v = record v {
+  held = held_and cargo.words v.held;
+  away = foreign v cargo.frames ++ v.away;
+  chains = cargo.carried ∷ v.chains;
+  names = cargo.names ++ v.names;
+  share = v.share + cargo.unit;
 }
 
 abbrev pub seen_waiting : ℕ → Waiting → List Waiter → List Waiter
 seen_waiting c wait hand = map (λ (x : Waiter). if x.cell == c then record x { wait = Some wait } else x) hand
 
-abbrev pub slot_taken : Slot → Load → View → View
-slot_taken (Cell c) load v = record (taken_in load v) {
+abbrev pub slot_taken : Slot → Cargo → View → View
+slot_taken (Cell c) cargo v = record (taken_in cargo v) {
   ready = without_number c v.ready;
-  hand = seen_waiting c load.carried.wait v.hand;
+  hand = seen_waiting c cargo.carried.wait v.hand;
   root = v.root && not (c == 0);
 }
-slot_taken (Mail at) load v = record (taken_in load v) { given = false }
+slot_taken (Mail at) cargo v = record (taken_in cargo v) { given = false }
 
-abbrev pub took : Slot → Option Chain → Load → View → View
-took slot None load v = v
-took slot (Some chain) load v = slot_taken slot load v
+abbrev pub took : Slot → Option Chain → Cargo → View → View
+took slot None cargo v = v
+took slot (Some chain) cargo v = slot_taken slot cargo v
 
 abbrev pub without_chain : ℕ → List Carried → List Carried
 without_chain c chains = filter (λ x. not (x.known.note.cell == c)) chains
 
 -- a chain that is put goes out of the turn with its frames and their words
-abbrev pub put_out : ℕ → Load → View → View
-put_out c load v = record v {
-  held = held_but load.words v.held;
-  away = without_frames load.frames v.away;
+abbrev pub put_out : ℕ → Cargo → View → View
+put_out c cargo v = record v {
+  held = held_but cargo.words v.held;
+  away = without_frames cargo.frames v.away;
   chains = without_chain c v.chains;
-  share = v.share - load.unit;
+  share = v.share - cargo.unit;
 }
 
 -- a waiting chain's number is in the hand from then on
@@ -333,9 +381,9 @@ waiter_of c (waits.Touch cell) hand = if in_hand c hand then hand else record { 
 waiter_of c (waits.Join cell least) hand = if in_hand c hand then hand else record { cell = c; wait = Some (waits.Join cell least); next = None; leads = false } ∷ hand
 waiter_of c _ hand = hand
 
-abbrev pub slot_put : Slot → Chain → Load → View → View
-slot_put (Cell c) chain load v = record (put_out chain.cell load v) { hand = waiter_of c chain.wait v.hand }
-slot_put (Mail at) chain load v = record (put_out chain.cell load v) { answering = put_into_mail v.answering }
+abbrev pub slot_put : Slot → Chain → Cargo → View → View
+slot_put (Cell c) chain cargo v = record (put_out chain.cell cargo v) { hand = waiter_of c chain.wait v.hand }
+slot_put (Mail at) chain cargo v = record (put_out chain.cell cargo v) { answering = put_into_mail v.answering }
 
 -- ---- each step
 
@@ -343,7 +391,7 @@ slot_put (Mail at) chain load v = record (put_out chain.cell load v) { answering
 unfoldable pub view_after : View → Step → Answer → View
 view_after v (StackStore p n) Done = record v { held = slice_set v.held p (Some n) }
 view_after v (Mark p) Done = marked p v
-view_after v (Look p) (Looked n load) = looked p n load v
+view_after v (Look p) (Looked n cargo) = looked p n cargo v
 view_after v (CellLoad c word) (Number n) = note_loaded (words.Cell c word) n (cell_seen c word n v)
 view_after v (CellStore c word n) Done = cell_stored c word n v
 view_after v (CellChange c old new) (Number n) = cell_changed (n == old) c old new n v
@@ -356,8 +404,8 @@ view_after v RootTake (Number n) = root_tried n v
 view_after v (RequestChange at old new) (Number n) = requested (n == old) at old new v
 view_after v MailLoad (Number n) = mail_read n v
 view_after v (MailStore at n) Done = mail_sent (at == v.number) n v
-view_after v (SlotTake slot) (Took chain load) = took slot chain load v
-view_after v (SlotPut slot chain load) Done = slot_put slot chain load v
+view_after v (SlotTake slot) (Took chain cargo) = took slot chain cargo v
+view_after v (SlotPut slot chain cargo) Done = slot_put slot chain cargo v
 view_after v (OutLoad i) (Number n) = note_loaded (words.Out i) n v
 view_after v _ _ = v
 
@@ -376,15 +424,16 @@ Does v s a v' = (x : Progress) × (v' ≡ with_progress x (view_after v s a))
 
 -- ---- what comes before a step
 
--- what a plain board leaves free before a step: the threads, the chains in the turn, the names, the two numbers and the exported frames
+-- what a plain board leaves free before a step: the threads, the cell of the next child, the chains in the turn, the two numbers and the
+-- exported frames
 pub record Free : Type 0 where
   pub progress : Progress
+  pub child : Option Child
   pub chains : List Carried
-  pub names : List (Held × ℕ)
   pub exported : List Frame
 
 abbrev pub with_free : Free → View → View
-with_free x v = record (with_progress x.progress v) { chains = x.chains; names = x.names; exported = x.exported }
+with_free x v = record (with_progress x.progress v) { child = x.child; chains = x.chains; exported = x.exported }
 
 -- what a plain board asks of what comes before a step
 abbrev pub IsFree : View → View → Type 0
@@ -399,9 +448,9 @@ no_known = record {
   begun = false;
 }
 
-abbrev pub no_load : Load
-no_load = record {
-  carried = record { known = no_known; wait = waits.Ready; trap = 0; standing = 0 };
+abbrev pub no_cargo : Cargo
+no_cargo = record {
+  carried = record { known = no_known; wait = waits.Ready; trap = None; standing = None };
   words = [];
   frames = [];
   names = [];

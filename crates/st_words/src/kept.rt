@@ -2,7 +2,7 @@
 ghost use Rattle.std.specs.Prelude.{◌≡◌, List, []};
 ghost use Rattle.std.specs.Borrow.{ftrue};
 ghost use Rattle.st_words.specs.declared.view.View.{View};
-ghost use Rattle.st_words.specs.Plain.{Loads};
+ghost use Rattle.st_words.specs.Plain.{Cargoes};
 
 use crate::words::Words;
 use st_base::limits::Limits;
@@ -12,20 +12,20 @@ use std::marker::{Brand, Model};
 pub trait Names {
     ghost views: { List View };
 
-    ghost loads: { Loads };
+    ghost cargoes: { Cargoes };
 }
 
 impl Names for Brand {
     ghost views = { [] };
 
-    ghost loads = { record { cells = []; mail = [] } };
+    ghost cargoes = { record { cells = []; mail = [] } };
 }
 
 /// The views of a plain board's workers, and what goes with the chains in its slots.
 #[derive(Drop)]
 pub struct Kept {
     pub ghost views: { List View },
-    pub ghost loads: { Loads },
+    pub ghost cargoes: { Cargoes },
 }
 
 impl Model for Kept {
@@ -35,7 +35,7 @@ impl Model for Kept {
 impl Kept {
     /// What the call picks.
     pub fn of<N: Names>() -> Kept
-        ensures { (result.views ≡ N.views) × (result.loads ≡ N.loads) }
+        ensures { (result.views ≡ N.views) × (result.cargoes ≡ N.cargoes) }
     {
         Kept {}
     }
@@ -44,7 +44,7 @@ impl Kept {
 /// What the call picks, from what was kept, the words before the step, and what it is told of the step.
 pub fn kept_by<N: Names, T>(_kept: &Kept, _words: &Words, _step: &T) -> Kept
     ensures views { result.views ≡ N.views }
-    ensures loads { result.loads ≡ N.loads }
+    ensures cargoes { result.cargoes ≡ N.cargoes }
 {
     Kept::of::<N>()
 }
@@ -52,7 +52,7 @@ pub fn kept_by<N: Names, T>(_kept: &Kept, _words: &Words, _step: &T) -> Kept
 /// What the call picks for a board with these limits and so many workers.
 pub fn first_kept<N: Names>(_limits: &Limits, _workers: u32) -> Kept
     ensures views { result.views ≡ N.views }
-    ensures loads { result.loads ≡ N.loads }
+    ensures cargoes { result.cargoes ≡ N.cargoes }
 {
     Kept::of::<N>()
 }

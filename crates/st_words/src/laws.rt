@@ -1,5 +1,5 @@
 //! What the view after a step is known to have, for those who name it: laws without code.
-ghost use Rattle.st_words.specs.Laws.{NamedIsWithin, SizeLaws, StoreLaws, MarkLaws, LookLaws, TakeLaws, PutLaws, LoadLaws, HandLaws};
+ghost use Rattle.st_words.specs.Laws.{NamedIsWithin, SizeLaws, StoreLaws, MarkLaws, LookLaws, TakeLaws, PutLaws, CargoLaws, HandLaws};
 ghost use Rattle.st_words.specs.Leased.{LeasedLaws};
 
 /// The view that is named by `named` is one that every board allows.
@@ -38,8 +38,8 @@ pub fn put_laws()
 {}
 
 /// What goes with a chain of the turn can be named, so that it may be put.
-pub fn load_laws()
-    ensures { LoadLaws }
+pub fn cargo_laws()
+    ensures { CargoLaws }
 {}
 
 /// Numbers come into the hand and go out of it.

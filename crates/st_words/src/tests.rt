@@ -1,13 +1,13 @@
 //! Each step once, with the words that it leaves: over the words alone, where the numbers come from the table of words in docs/board.md, and
 //! over a board.
-ghost use Rattle.std.specs.Prelude.{◌≡◌, ◌<◌, ◌∷◌, [], length, IfOk};
+ghost use Rattle.std.specs.Prelude.{◌≡◌, ◌<◌, ◌∷◌, [], length, None, IfOk};
 ghost use Rattle.st_words.specs.Encodings.{counter_word, count_after, count_in};
 ghost use Rattle.st_words.specs.Laws.{named, progress_of};
 ghost use Rattle.st_words.specs.Plain.{view_at, first_view};
 ghost use Rattle.st_words.specs.Sizes.{SizedWords};
-ghost use Rattle.st_words.specs.Views.{no_load, no_known, with_free};
+ghost use Rattle.st_words.specs.Views.{no_cargo, no_known, with_free};
 
-use crate::board::{Board, Next};
+use crate::board::{Board, NamesView};
 use crate::plain::PlainBoard;
 use crate::view::{CellWord, Slot};
 use crate::words::Words;
@@ -21,20 +21,20 @@ use std::test::Fail;
 /// Names the view after a step by the step alone.
 struct Plainly;
 
-impl Next for Plainly {
+impl NamesView for Plainly {
     ghost after = { λ v s a. named (progress_of v) v s a };
 
-    ghost load = { λ _ _ _. no_load };
+    ghost cargo = { λ _ _ _. no_cargo };
 }
 
 /// Names the view after a step of a worker that has come to hold the root's thread, the chain of cell 5 in its turn and an exported frame,
 /// whose return word is the second word of its stack.
 struct Busy;
 
-impl Next for Busy {
-    ghost after = { λ v s a. named (record { threads = no_known ∷ []; items = 0; frame_bytes = 0 }) (with_free (record { progress = record { threads = no_known ∷ []; items = 0; frame_bytes = 0 }; chains = record no_load.carried { known = record no_known { note = record { cell = 5; forks = 0; counters = 0; bytes = 0 } } } ∷ []; names = []; exported = record { low = 0x8000_0000; base = 0x8000_0010 } ∷ [] }) v) s a };
+impl NamesView for Busy {
+    ghost after = { λ v s a. named (record { threads = no_known ∷ []; items = 0; frame_bytes = 0 }) (with_free (record { progress = record { threads = no_known ∷ []; items = 0; frame_bytes = 0 }; child = None; chains = record no_cargo.carried { known = record no_known { note = record { cell = 5; forks = 0; counters = 0; bytes = 0 } } } ∷ []; exported = record { low = 0x8000_0000; base = 0x8000_0010 } ∷ [] }) v) s a };
 
-    ghost load = { λ _ _ _. no_load };
+    ghost cargo = { λ _ _ _. no_cargo };
 }
 
 /// Limits of 16 cells, and stacks of 128 words.
@@ -101,6 +101,89 @@ fn rooted(alloc: Global, limits: &Limits) -> Result<PlainBoard, AllocError>
     Ok(board)
 }
 
+/// One step of the first worker of a fresh board.
+#[derive(Drop)]
+enum Tried {
+    LoadOwner,
+    StoreValue,
+    Fill,
+    Stop,
+    LoadRequest,
+    Ask,
+    SetMail,
+    LoadByte,
+    Put,
+}
+
+/// Makes the step, and answers what was found: 0 where nothing was, or where the step answers nothing.
+fn make_step(board: &mut PlainBoard, limits: &Limits, step: &Tried) -> u64
+    requires serves { 0 < length board.old.kept.views }
+    requires view { view_at board.old.kept.views 0 ≡ first_view limits.now 2 0 }
+    requires cells { limits.now.cells ≡ 16 }
+{
+    match step {
+        Tried::LoadOwner => board.cell_load::<Busy>(0, 0, CellWord::Owner),
+        Tried::StoreValue => {
+            board.cell_store::<Busy>(0, 0, CellWord::Value, 7);
+            0
+        }
+        Tried::Fill => found(board.cell_change::<Busy>(0, 0, 0, 4_294_967_296)),
+        Tried::Stop => found(board.stop_set::<Busy>(0, 2)),
+        Tried::LoadRequest => board.request_load::<Busy>(0, 1),
+        Tried::Ask => found(board.request_change::<Busy>(0, 1, 0, 1)),
+        Tried::SetMail => {
+            board.mail_store::<Busy>(0, 0, 1);
+            0
+        }
+        Tried::LoadByte => board.out_load::<Busy>(0, 1_048_575),
+        Tried::Put => {
+            board.slot_put::<Busy>(0, Slot::Cell(5), chain(5));
+            0
+        }
+    }
+}
+
+/// What a compare and exchange found; 0 where it stored.
+fn found(answer: Result<(), u64>) -> u64 {
+    match answer {
+        Ok(()) => 0,
+        Err(found) => found,
+    }
+}
+
+/// The word at a place, or 0 where there is none.
+fn word(words: &[u64], at: usize) -> u64 {
+    match words.get(at) {
+        Some(found) => *found,
+        None => 0,
+    }
+}
+
+/// The word of the step: of a chain that was put the cell that it names.
+fn left(words: &Words, step: &Tried) -> u64 {
+    match step {
+        Tried::LoadOwner => word(words.owners.as_slice(), 0),
+        Tried::StoreValue => word(words.values.as_slice(), 0),
+        Tried::Fill => word(words.states.as_slice(), 0),
+        Tried::Stop => words.stop,
+        Tried::LoadRequest | Tried::Ask => word(words.requests.as_slice(), 1),
+        Tried::SetMail => word(words.mail.as_slice(), 0),
+        Tried::LoadByte => 0,
+        Tried::Put => match words.cell_slots.as_slice().get(5) {
+            Some(Some(chain)) => chain.cell as u64,
+            _ => 0,
+        },
+    }
+}
+
+/// Whether the step of a fresh board finds this, and leaves this word.
+fn shows(alloc: Global, step: Tried, finds: u64, leaves: u64) -> Result<bool, AllocError> {
+    let limits = small();
+    let mut board = fresh(alloc, &limits)?;
+    let answer = make_step(&mut board, &limits, &step);
+    Ok(answer == finds && left(&board.words, &step) == leaves)
+}
+
 #[test]
 fn a_board_steps_on_a_stack(rt: HostRuntime) -> Result<(), Fail> {
     let limits = small();
@@ -114,63 +197,16 @@ fn a_board_steps_on_a_stack(rt: HostRuntime) -> Result<(), Fail> {
 }
 
 #[test]
-fn a_board_loads_a_cell(rt: HostRuntime) -> Result<(), Fail> {
-    let limits = small();
-    let mut board = fresh(rt.alloc(), &limits)?;
-    assert_eq!(rt; board.cell_load::<Busy>(0, 0, CellWord::Owner), 1);
-    Ok(())
-}
-
-#[test]
-fn a_board_stores_to_a_cell(rt: HostRuntime) -> Result<(), Fail> {
-    let limits = small();
-    let mut board = fresh(rt.alloc(), &limits)?;
-    board.cell_store::<Busy>(0, 0, CellWord::Value, 7);
-    assert_eq!(rt; board.words.values.as_slice().get(0), Some(&7));
-    Ok(())
-}
-
-#[test]
-fn a_board_changes_a_cell(rt: HostRuntime) -> Result<(), Fail> {
-    let limits = small();
-    let mut board = fresh(rt.alloc(), &limits)?;
-    assert_eq!(rt; board.cell_change::<Busy>(0, 0, 0, 4_294_967_296), Ok(()));
-    assert_eq!(rt; board.words.states.as_slice().get(0), Some(&4_294_967_296));
-    Ok(())
-}
-
-#[test]
-fn a_board_is_stopped(rt: HostRuntime) -> Result<(), Fail> {
-    let limits = small();
-    let mut board = fresh(rt.alloc(), &limits)?;
-    assert_eq!(rt; board.stop_set::<Busy>(0, 2), Ok(()));
-    assert_eq!(rt; board.words.stop, 2);
-    Ok(())
-}
-
-#[test]
-fn a_board_loads_a_request(rt: HostRuntime) -> Result<(), Fail> {
-    let limits = small();
-    let mut board = fresh(rt.alloc(), &limits)?;
-    assert_eq!(rt; board.request_load::<Busy>(0, 1), 0);
-    Ok(())
-}
-
-#[test]
-fn a_board_changes_a_request(rt: HostRuntime) -> Result<(), Fail> {
-    let limits = small();
-    let mut board = fresh(rt.alloc(), &limits)?;
-    assert_eq!(rt; board.request_change::<Busy>(0, 1, 0, 1), Ok(()));
-    assert_eq!(rt; board.words.requests.as_slice().get(1), Some(&1));
-    Ok(())
-}
-
-#[test]
-fn a_board_stores_mail(rt: HostRuntime) -> Result<(), Fail> {
-    let limits = small();
-    let mut board = fresh(rt.alloc(), &limits)?;
-    board.mail_store::<Busy>(0, 0, 1);
-    assert_eq!(rt; board.words.mail.as_slice().get(0), Some(&1));
+fn a_board_makes_each_step(rt: HostRuntime) -> Result<(), Fail> {
+    assert!(rt; shows(rt.alloc(), Tried::LoadOwner, 1, 1)?);
+    assert!(rt; shows(rt.alloc(), Tried::StoreValue, 0, 7)?);
+    assert!(rt; shows(rt.alloc(), Tried::Fill, 0, 4_294_967_296)?);
+    assert!(rt; shows(rt.alloc(), Tried::Stop, 0, 2)?);
+    assert!(rt; shows(rt.alloc(), Tried::LoadRequest, 0, 0)?);
+    assert!(rt; shows(rt.alloc(), Tried::Ask, 0, 1)?);
+    assert!(rt; shows(rt.alloc(), Tried::SetMail, 0, 1)?);
+    assert!(rt; shows(rt.alloc(), Tried::LoadByte, 0, 0)?);
+    assert!(rt; shows(rt.alloc(), Tried::Put, 0, 5)?);
     Ok(())
 }
 
@@ -180,28 +216,6 @@ fn a_board_prints(rt: HostRuntime) -> Result<(), Fail> {
     let mut board = fresh(rt.alloc(), &limits)?;
     board.out_store::<Busy>(0, 3, 256 + 65);
     assert_eq!(rt; board.words.out.get(3), 321);
-    Ok(())
-}
-
-#[test]
-fn a_board_loads_a_byte(rt: HostRuntime) -> Result<(), Fail> {
-    let limits = small();
-    let mut board = fresh(rt.alloc(), &limits)?;
-    assert_eq!(rt; board.out_load::<Busy>(0, 1_048_575), 0);
-    Ok(())
-}
-
-#[test]
-fn a_chain_is_put_on_a_board(rt: HostRuntime) -> Result<(), Fail> {
-    let limits = small();
-    let mut board = fresh(rt.alloc(), &limits)?;
-    board.slot_put::<Busy>(0, Slot::Cell(5), chain(5));
-    assert!(rt;
-        matches!(
-            board.words.cell_slots.as_slice().get(5),
-            Some(Some(Chain { cell: 5, .. }))
-        )
-    );
     Ok(())
 }
 

@@ -21,14 +21,15 @@ pub struct Carried {
     /// The thread that it stands for.
     pub known: Known,
     pub wait: Waiting,
-    /// The Trap word of its cell.
-    pub trap: u64,
-    /// The Standing word of its cell.
-    pub standing: u64,
+    /// The Trap word of its cell, where the worker knows it.
+    pub trap: Option<u64>,
+    /// The Standing word of its cell; `None` while it is still 1 though the thread was suspended. Where it is 1 or 3 the thread has no wait, or
+    /// its wait is over.
+    pub standing: Option<u64>,
 }
 
 /// What goes with a chain in a slot.
-pub struct Load {
+pub struct Cargo {
     pub carried: Carried,
     /// For each stack word what it has, where the chain holds it.
     pub words: LinkedList<Option<u64>>,
@@ -49,6 +50,13 @@ pub struct Waiter {
     pub next: Option<u64>,
     /// Whether it leads a list that was handed out: the numbers to which the Next words lead from it are in the hand too.
     pub leads: bool,
+}
+
+/// A child whose cell is named, and which isn't there yet.
+pub struct Child {
+    pub cell: u64,
+    /// Whether its Standing word is 1.
+    pub stands: bool,
 }
 
 /// A request that the worker answers.
@@ -122,8 +130,8 @@ pub struct View {
     pub frame_bytes: u64,
     /// The numbers that it has drawn and not yet named.
     pub drawn: LinkedList<u64>,
-    /// The cells that it has named.
-    pub named: LinkedList<u64>,
+    /// The next child of its top thread, whose cell it has named, and which isn't there yet.
+    pub child: Option<Child>,
     /// The Owner words that it has seen or stored, by their cells.
     pub owners: LinkedList<(u64, u64)>,
     /// The futures that it has seen full.
@@ -132,7 +140,7 @@ pub struct View {
     pub filled: LinkedList<u64>,
     /// The values that it has read of futures that it saw full.
     pub values: LinkedList<(u64, u64)>,
-    /// The values that it has stored of threads that it holds.
+    /// The values that it has stored of threads that it holds, one a cell.
     pub valued: LinkedList<(u64, u64)>,
     /// The counts that it has seen.
     pub counts: LinkedList<(u64, u64)>,

@@ -4,24 +4,24 @@ use Rattle.st_words.specs.Steps.{StackStore, StackLoad, Mark, Look, Holds}
 use Rattle.st_words.proofs.Trying.{busy_asks, held_first, held_stored, held_loaded, looks_marked}
 use Rattle.st_words.proofs.tests.a_board_steps_on_a_stack.Goals as goal
 
-pub stack_store-requires-clause-may : goal.stack_store-requires-clause-may
-stack_store-requires-clause-may g c =
-    busy_asks (Exact c.in_ok-board.board.words c.in_ok-board.board.kept.loads 0) (view_at c.in_ok-board.board.kept.views 0) (StackStore 1 9) (held_first c.small-limits.result (view_at c.in_ok-board.board.kept.views 0) c.small-limits.ensures.stack c.in_ok-board.ensures.view)
+pub stack_store-requires : goal.stack_store-requires
+stack_store-requires g c =
+    record { may = record { serves = c.in_ok-board.ensures.serves; may = busy_asks (Exact c.in_ok-board.board.words c.in_ok-board.board.kept.cargoes 0) (view_at c.in_ok-board.board.kept.views 0) (StackStore 1 9) (held_first c.small-limits.result (view_at c.in_ok-board.board.kept.views 0) c.small-limits.ensures.stack c.in_ok-board.ensures.view) } }
 
-pub stack_load-requires-clause-may : goal.stack_load-requires-clause-may
-stack_load-requires-clause-may g c =
+pub stack_load-requires : goal.stack_load-requires
+stack_load-requires g c =
     let first : Holds (view_at c.in_ok-board.board.kept.views 0) 1 = held_first c.small-limits.result (view_at c.in_ok-board.board.kept.views 0) c.small-limits.ensures.stack c.in_ok-board.ensures.view in
-    busy_asks (Exact c.stack_store.new.self.words c.stack_store.new.self.kept.loads 0) (view_at c.stack_store.new.self.kept.views 0) (StackLoad 1) (held_stored (view_at c.in_ok-board.board.kept.views 0) (view_at c.stack_store.new.self.kept.views 0) 1 9 first c.stack_store.ensures.view)
+    record { may = record { serves = c.stack_store.ensures.made.serves; may = busy_asks (Exact c.stack_store.new.self.words c.stack_store.new.self.kept.cargoes 0) (view_at c.stack_store.new.self.kept.views 0) (StackLoad 1) (held_stored (view_at c.in_ok-board.board.kept.views 0) (view_at c.stack_store.new.self.kept.views 0) 1 9 first c.stack_store.ensures.made.view) } }
 
-pub mark-requires-clause-may : goal.mark-requires-clause-may
-mark-requires-clause-may g c =
+pub mark-requires : goal.mark-requires
+mark-requires g c =
     let first : Holds (view_at c.in_ok-board.board.kept.views 0) 1 = held_first c.small-limits.result (view_at c.in_ok-board.board.kept.views 0) c.small-limits.ensures.stack c.in_ok-board.ensures.view in
-    let stored : Holds (view_at c.stack_store.new.self.kept.views 0) 1 = held_stored (view_at c.in_ok-board.board.kept.views 0) (view_at c.stack_store.new.self.kept.views 0) 1 9 first c.stack_store.ensures.view in
-    busy_asks (Exact c.stack_load.new.self.words c.stack_load.new.self.kept.loads 0) (view_at c.stack_load.new.self.kept.views 0) (Mark 1) (held_loaded (view_at c.stack_store.new.self.kept.views 0) (view_at c.stack_load.new.self.kept.views 0) 1 1 c.stack_load.result stored c.stack_load.ensures.view)
+    let stored : Holds (view_at c.stack_store.new.self.kept.views 0) 1 = held_stored (view_at c.in_ok-board.board.kept.views 0) (view_at c.stack_store.new.self.kept.views 0) 1 9 first c.stack_store.ensures.made.view in
+    record { may = record { serves = c.stack_load.ensures.made.serves; may = busy_asks (Exact c.stack_load.new.self.words c.stack_load.new.self.kept.cargoes 0) (view_at c.stack_load.new.self.kept.views 0) (Mark 1) (held_loaded (view_at c.stack_store.new.self.kept.views 0) (view_at c.stack_load.new.self.kept.views 0) 1 1 c.stack_load.result stored c.stack_load.ensures.made.view) } }
 
-pub look-requires-clause-may : goal.look-requires-clause-may
-look-requires-clause-may g c =
+pub look-requires : goal.look-requires
+look-requires g c =
     let first : Holds (view_at c.in_ok-board.board.kept.views 0) 1 = held_first c.small-limits.result (view_at c.in_ok-board.board.kept.views 0) c.small-limits.ensures.stack c.in_ok-board.ensures.view in
-    let stored : Holds (view_at c.stack_store.new.self.kept.views 0) 1 = held_stored (view_at c.in_ok-board.board.kept.views 0) (view_at c.stack_store.new.self.kept.views 0) 1 9 first c.stack_store.ensures.view in
-    let loaded : Holds (view_at c.stack_load.new.self.kept.views 0) 1 = held_loaded (view_at c.stack_store.new.self.kept.views 0) (view_at c.stack_load.new.self.kept.views 0) 1 1 c.stack_load.result stored c.stack_load.ensures.view in
-    busy_asks (Exact c.mark.new.self.words c.mark.new.self.kept.loads 0) (view_at c.mark.new.self.kept.views 0) (Look 1) ((record { low = 0x8000_0000; base = 0x8000_0010 }, (0, omega arith, refl), refl), looks_marked (view_at c.stack_load.new.self.kept.views 0) (view_at c.mark.new.self.kept.views 0) loaded c.mark.ensures.view)
+    let stored : Holds (view_at c.stack_store.new.self.kept.views 0) 1 = held_stored (view_at c.in_ok-board.board.kept.views 0) (view_at c.stack_store.new.self.kept.views 0) 1 9 first c.stack_store.ensures.made.view in
+    let loaded : Holds (view_at c.stack_load.new.self.kept.views 0) 1 = held_loaded (view_at c.stack_store.new.self.kept.views 0) (view_at c.stack_load.new.self.kept.views 0) 1 1 c.stack_load.result stored c.stack_load.ensures.made.view in
+    record { may = record { serves = c.mark.ensures.made.serves; may = busy_asks (Exact c.mark.new.self.words c.mark.new.self.kept.cargoes 0) (view_at c.mark.new.self.kept.views 0) (Look 1) ((record { low = 0x8000_0000; base = 0x8000_0010 }, (0, omega arith, refl), refl), looks_marked (view_at c.stack_load.new.self.kept.views 0) (view_at c.mark.new.self.kept.views 0) loaded c.mark.ensures.made.view) } }

@@ -1,4 +1,4 @@
--- `of` makes the empty struct, with the views and loads that its caller names.
+-- `of` makes the empty struct, with the views and the cargoes that its caller names.
 use Rattle.std.proofs.Common.{[], ◌∷◌, refl}
 use seplogic.Ra.Ura.{Ura}
 use mir.Syntax.{Fn, Args, Dict, dcons, dnil, a_type}
@@ -63,7 +63,7 @@ module _ (N : RattleType) (g : Ghosts N.Denot) (d : Dict) where
       walks =
           let a = z.0.3 in
           let vss = z.0.4 in
-          let made : Kept.the_row.Denot = record { views = g.views; loads = g.loads } in
+          let made : Kept.the_row.Denot = record { views = g.views; cargoes = g.cargoes } in
           qed 𝓛 ((raw toks ⊛ ‵ (owns (types_at ended.signature.params z.0.0) a vss)) ∷ raw ((held z.0.0 a).requires z.1) ∷ []) ∵
           keep ! (0 ∷ []) $ split ! $ keep ! (0 ∷ []) $
           enter ! C Λ function [] Post $ alloc_all ! (λ l. pass_all ! refl tt $

@@ -1,9 +1,9 @@
 use Rattle.st_words.specs.Steps.{ActiveAdd, Number}
-use Rattle.st_words.specs.Plain.{views_after, loads_after, view_at}
+use Rattle.st_words.specs.Plain.{views_after, cargoes_after, view_at}
 use Rattle.st_words.proofs.plain.PlainBoardBoard.active_add.Given as goal
 
 abbrev pub ghosts-kept_by : goal.ghosts-kept_by
 ghosts-kept_by g a = record {
-  views = views_after g.N.Next.after a._kept.now.views a._step.now.0 (ActiveAdd a._step.now.1) (Number a._step.now.2);
-  loads = loads_after (view_at a._kept.now.views a._step.now.0) a._kept.now.loads (ActiveAdd a._step.now.1);
+  views = views_after g.N.NamesView.after a._kept.now.views a._step.now.0 (ActiveAdd a._step.now.1) (Number a._step.now.2);
+  cargoes = cargoes_after (view_at a._kept.now.views a._step.now.0) a._kept.now.cargoes (ActiveAdd a._step.now.1);
 }

@@ -1,9 +1,9 @@
 use Rattle.st_words.specs.Steps.{ActiveLoad, Number}
-use Rattle.st_words.specs.Plain.{views_after, loads_after, view_at}
+use Rattle.st_words.specs.Plain.{views_after, cargoes_after, view_at}
 use Rattle.st_words.proofs.plain.PlainBoardBoard.active_load.Given as goal
 
 abbrev pub ghosts-kept_by : goal.ghosts-kept_by
 ghosts-kept_by g a = record {
-  views = views_after g.N.Next.after a._kept.now.views a._step.now.0 (ActiveLoad) (Number a._step.now.1);
-  loads = loads_after (view_at a._kept.now.views a._step.now.0) a._kept.now.loads (ActiveLoad);
+  views = views_after g.N.NamesView.after a._kept.now.views a._step.now.0 (ActiveLoad) (Number a._step.now.1);
+  cargoes = cargoes_after (view_at a._kept.now.views a._step.now.0) a._kept.now.cargoes (ActiveLoad);
 }

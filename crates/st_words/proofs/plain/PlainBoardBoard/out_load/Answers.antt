@@ -1,17 +1,17 @@
 use Rattle.st_words.specs.Steps.{OutLoad, Number}
 use Rattle.st_words.specs.Plain.{words_after, Exact}
-use Rattle.st_words.proofs.Stays.{board_sized, board_left}
+use Rattle.st_words.proofs.Stays.{board_sized, board_made}
 use Rattle.st_words.proofs.Sizes.{out_bound}
 use Rattle.std.proofs.Common.{refl}
 use Rattle.st_words.proofs.plain.PlainBoardBoard.out_load.Goals as goal
 
 pub invariant_of-self : goal.invariant_of-self
 unfolding words_after
-invariant_of-self g c = record { sized = board_sized c.args.self.now.words _ c.args.self.now.kept.loads _ c.args.self.now.kept.views _ c.args.w (OutLoad c.args.i) (Number c.out_load-found.result) (Exact c.args.self.now.words c.args.self.now.kept.loads c.args.w) g.N.Next.after c.args.self.now.sized c.requires.serves c.requires.may c.out_load-found.ensures refl c.kept_by-self.ensures.loads c.kept_by-self.ensures.views }
+invariant_of-self g c = record { sized = board_sized c.args.self.now.words _ c.args.self.now.kept.cargoes _ c.args.self.now.kept.views _ c.args.w (OutLoad c.args.i) (Number c.out_load-found.result) (Exact c.args.self.now.words c.args.self.now.kept.cargoes c.args.w) g.N.NamesView.after c.args.self.now.sized c.requires.may.serves c.requires.may.may c.out_load-found.ensures refl c.kept_by-self.ensures.cargoes c.kept_by-self.ensures.views }
 
-pub returns-clause-did : goal.returns-clause-did
+pub returns : goal.returns
 unfolding words_after
-returns-clause-did g c = board_left c.args.self.now.words _ c.args.self.now.kept.loads _ c.args.self.now.kept.views _ c.args.w (OutLoad c.args.i) (Number c.out_load-found.result) g.N.Next.after refl c.kept_by-self.ensures.loads c.kept_by-self.ensures.views
+returns g c = record { made = board_made g.N.NamesView.after c.args.self.now _ c.args.w (OutLoad c.args.i) (Number c.out_load-found.result) c.requires.may.serves c.out_load-found.ensures refl c.kept_by-self.ensures.cargoes c.kept_by-self.ensures.views }
 
 pub out_load-found-requires : goal.out_load-found-requires
-out_load-found-requires g c = out_bound _ _ c.args.self.now.sized.words.out c.requires.may.2
+out_load-found-requires g c = out_bound _ _ c.args.self.now.sized.words.out c.requires.may.may.2

@@ -1,4 +1,4 @@
--- What goes with a chain that is put can be named: load_laws.
+-- What goes with a chain that is put can be named: cargo_laws.
 use Rattle.std.proofs.Common.{◌≡◌, inr, ⊎_elim, ℕ, ◌<◌, Bool, true, false, cond, List, [], ◌∷◌, length, Option, Some, refl, sym, ap, ◌∙◌, subst}
 use Rattle.std.specs.List.{Contains}
 use Rattle.st_base.specs.declared.chain.Chain.{Chain}
@@ -8,7 +8,7 @@ use Rattle.st_words.specs.declared.view.View.{View}
 use Rattle.st_words.specs.Steps.{Inside, kept}
 use Rattle.st_words.specs.Views.{is_inside}
 use Rattle.st_words.specs.Careful.{MayCarry}
-use Rattle.st_words.specs.Laws.{LoadLaws, HasFrames, inside_one, words_of, load_of}
+use Rattle.st_words.specs.Laws.{CargoLaws, HasFrames, inside_one, words_of, cargo_of}
 use Rattle.st_words.proofs.Lists.{kept_within, all_some, inside_true, true_inside, contains_here, contains_later, contains_none, contains_case}
 use Rattle.st_words.proofs.Sizes.{remade_length}
 
@@ -42,7 +42,7 @@ words fs held p n e =
 whole : (fs : List Frame) (held : List (Option ℕ)) (f : Frame) (p n : ℕ) → Contains fs f → Inside f p → kept held p ≡ Some n → kept (words_of fs held) p ≡ Some n
 whole fs held f p n m i e = all_some (inside_one fs) held p (kept_within held p n e) ∙ one_in fs p (kept held p) f m i ∙ e
 
-may_carry : (u : View) (chain : Chain) (x : Carried) (fs : List Frame) (unit : ℕ) → HasFrames u chain x fs → MayCarry u chain (load_of u x fs unit)
+may_carry : (u : View) (chain : Chain) (x : Carried) (fs : List Frame) (unit : ℕ) → HasFrames u chain x fs → MayCarry u chain (cargo_of u x fs unit)
 may_carry u chain x fs unit r = record {
   carried = r.carried;
   note = r.note;
@@ -56,8 +56,8 @@ may_carry u chain x fs unit r = record {
   known = λ name c m. m;
 }
 
-pub load_laws : LoadLaws
-load_laws = record {
+pub cargo_laws : CargoLaws
+cargo_laws = record {
   words = λ u x fs unit p n e. words fs u.held p n e;
   whole = λ u x fs unit f p n m i e. whole fs u.held f p n m i e;
   may_carry = may_carry;
