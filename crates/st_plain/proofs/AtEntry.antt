@@ -86,8 +86,8 @@ ends_elsewhere Called ret entry ra ends not_out not_end = ends
 ends_elsewhere Forked ret entry ra ends not_out not_end = not_out ends.0
 ends_elsewhere Root ret entry ra ends not_out not_end = not_end ends
 
-pub call_at : (p : Program) (limits : Limits) (r : PlainRun) (names : List Held) (s : State) → IsAtEntry p limits r names s → r.machine.state.pc ≢ 0x20 → r.machine.state.pc ≢ 0x30 → AtCall p limits.stack names (situation r.machine.state r.board.words.stack) s
-call_at p limits r names s at not_out not_end = elim at.at [ inl call ↦ call | inr end ↦ absurd (ends_elsewhere s.top.kind end.ret r.machine.state.pc (register r.machine.state registers.Ra) end.ends not_out not_end) ]
+pub call_at : (p : Program) (limits : Limits) (r : PlainRun) (names : List Held) (s : State) → IsAtEntry p limits r names s → r.machine.pc ≢ 0x20 → r.machine.pc ≢ 0x30 → AtCall p limits.stack names (situation r.machine r.board.words.stack) s
+call_at p limits r names s at not_out not_end = elim at.at [ inl call ↦ call | inr end ↦ absurd (ends_elsewhere s.top.kind end.ret r.machine.pc (register r.machine registers.Ra) end.ends not_out not_end) ]
 
 entry_kind : (kind : ItemKind) (entry n : ℕ) → Enters kind entry → entry ≡ n → n ≢ 0x10 → kind ≡ items.Entry n
 entry_kind (items.Entry at) entry n enters is other = ap items.Entry (sym enters ∙ is)
@@ -123,11 +123,11 @@ calling_at p d limits names t s n call accepted at is calls = record {
   drawn = drawn_at p s at.stands.function at.item (items.Entry n) at.stands.here at.placed is ∙ ap call_draws calls;
 }
 
-pub calling : (p : Program) (d : Data) (image : Image) (limits : Limits) (r : PlainRun) (names : List Held) (s : State) (n : ℕ) (call : RuntimeCall) → IsPlainImage p image → IsAtEntry p limits r names s → r.machine.state.pc ≡ n
-    → n ≢ 0x10 → n ≢ 0x20 → n ≢ 0x30 → runtime_call n ≡ Some call → IsCalling p d limits names (situation r.machine.state r.board.words.stack) s call
+pub calling : (p : Program) (d : Data) (image : Image) (limits : Limits) (r : PlainRun) (names : List Held) (s : State) (n : ℕ) (call : RuntimeCall) → IsPlainImage p image → IsAtEntry p limits r names s → r.machine.pc ≡ n
+    → n ≢ 0x10 → n ≢ 0x20 → n ≢ 0x30 → runtime_call n ≡ Some call → IsCalling p d limits names (situation r.machine r.board.words.stack) s call
 calling p d image limits r names s n call pi entry is not_in not_out not_end calls =
     let at = call_at p limits r names s entry (λ e. not_out (sym is ∙ e)) (λ e. not_end (sym is ∙ e)) in
-    calling_at p d limits names (situation r.machine.state r.board.words.stack) s n call pi.accepted at (entry_kind at.item.kind r.machine.state.pc n at.enters is not_in) calls
+    calling_at p d limits names (situation r.machine r.board.words.stack) s n call pi.accepted at (entry_kind at.item.kind r.machine.pc n at.enters is not_in) calls
 
 other_call : {X : Type 0} (n at : ℕ) (x y : X) → at ≢ n → cond (at == n) x y ≡ y
 other_call n at x y other = ap (λ (b : Bool). cond b x y) (ne_eqb at n other)
@@ -144,14 +144,14 @@ poll_alone at call is touch counter done join putc =
 
 -- at another entry
 pub polling : (p : Program) (d : Data) (image : Image) (limits : Limits) (r : PlainRun) (names : List Held) (s : State) → IsPlainImage p image → IsAtEntry p limits r names s
-    → r.machine.state.pc ≢ 0x10 → r.machine.state.pc ≢ 0x20 → r.machine.state.pc ≢ 0x30 → r.machine.state.pc ≢ 0x40 → r.machine.state.pc ≢ 0x50 → r.machine.state.pc ≢ 0x60 → r.machine.state.pc ≢ 0x70 → r.machine.state.pc ≢ 0x90
-    → IsCalling p d limits names (situation r.machine.state r.board.words.stack) s Poll
+    → r.machine.pc ≢ 0x10 → r.machine.pc ≢ 0x20 → r.machine.pc ≢ 0x30 → r.machine.pc ≢ 0x40 → r.machine.pc ≢ 0x50 → r.machine.pc ≢ 0x60 → r.machine.pc ≢ 0x70 → r.machine.pc ≢ 0x90
+    → IsCalling p d limits names (situation r.machine r.board.words.stack) s Poll
 polling p d image limits r names s pi entry fork_in fork_out end touch counter done join putc =
     let at = call_at p limits r names s entry fork_out end in
-    let pc = r.machine.state.pc in
+    let pc = r.machine.pc in
     let is = entry_kind at.item.kind pc pc at.enters refl fork_in in
     let fits : Fits p at.stands.function (items.Entry pc) = subst (Fits p at.stands.function) is ((formed_at p s.top.function at.stands.function pi.accepted at.stands.here).fits s.top.next at.item at.placed) in
-    calling_at p d limits names (situation r.machine.state r.board.words.stack) s pc Poll pi.accepted at is (fits.1 ∙ ap Some (poll_alone pc fits.0 fits.1 touch counter done join putc))
+    calling_at p d limits names (situation r.machine r.board.words.stack) s pc Poll pi.accepted at is (fits.1 ∙ ap Some (poll_alone pc fits.0 fits.1 touch counter done join putc))
 
 -- ---- forks
 
@@ -181,13 +181,13 @@ pub record IsForking (p : Program) (d : Data) (limits : Limits) (names : List He
   pub limit : (drawn : ℕ) → limit_met p limits drawn s ≡ limit_when (nat_lt (limits.cells - drawn) 1) false (length s.top.bytes)
   pub drawn : drawn_by (item_at p s.top) ≡ 1
 
-pub forking : (p : Program) (d : Data) (image : Image) (limits : Limits) (r : PlainRun) (names : List Held) (s : State) → IsPlainImage p image → IsAtEntry p limits r names s → r.machine.state.pc ≡ 0x10
-    → IsForking p d limits names (situation r.machine.state r.board.words.stack) s
+pub forking : (p : Program) (d : Data) (image : Image) (limits : Limits) (r : PlainRun) (names : List Held) (s : State) → IsPlainImage p image → IsAtEntry p limits r names s → r.machine.pc ≡ 0x10
+    → IsForking p d limits names (situation r.machine r.board.words.stack) s
 forking p d image limits r names s pi entry is =
     let at = call_at p limits r names s entry (λ e. omega (arith, e, is)) (λ e. omega (arith, e, is)) in
     let formed = formed_at p s.top.function at.stands.function pi.accepted at.stands.here in
     let fits = formed.fits s.top.next at.item at.placed in
-    let fork = fork_kind p at.stands.function at.item.kind r.machine.state.pc fits at.enters is in
+    let fork = fork_kind p at.stands.function at.item.kind r.machine.pc fits at.enters is in
     record {
       at = at;
       f = fork.0;
@@ -224,14 +224,14 @@ pub record IsEnding (p : Program) (d : Data) (limits : Limits) (names : List Hel
   pub limit : (drawn : ℕ) → limit_met p limits drawn s ≡ None
   pub drawn : drawn_by (item_at p s.top) ≡ 0
 
-pub ending : (p : Program) (d : Data) (image : Image) (limits : Limits) (r : PlainRun) (names : List Held) (s : State) (n : ℕ) → IsPlainImage p image → IsAtEntry p limits r names s → r.machine.state.pc ≡ n → n ≢ 0x10 → runtime_call n ≡ None
-    → IsEnding p d limits names (situation r.machine.state r.board.words.stack) s
+pub ending : (p : Program) (d : Data) (image : Image) (limits : Limits) (r : PlainRun) (names : List Held) (s : State) (n : ℕ) → IsPlainImage p image → IsAtEntry p limits r names s → r.machine.pc ≡ n → n ≢ 0x10 → runtime_call n ≡ None
+    → IsEnding p d limits names (situation r.machine r.board.words.stack) s
 ending p d image limits r names s n pi entry is other none = by_case entry.at
   where
-    by_case : AtCall p limits.stack names (situation r.machine.state r.board.words.stack) s ⊎ AtEnd p limits.stack names (situation r.machine.state r.board.words.stack) s → IsEnding p d limits names (situation r.machine.state r.board.words.stack) s
+    by_case : AtCall p limits.stack names (situation r.machine r.board.words.stack) s ⊎ AtEnd p limits.stack names (situation r.machine r.board.words.stack) s → IsEnding p d limits names (situation r.machine r.board.words.stack) s
     by_case (inl call) =
         let fits = (formed_at p s.top.function call.stands.function pi.accepted call.stands.here).fits s.top.next call.item call.placed in
-        absurd (never_called p call.stands.function call.item.kind r.machine.state.pc fits call.enters (λ e. other (sym is ∙ e)) (ap runtime_call is ∙ none))
+        absurd (never_called p call.stands.function call.item.kind r.machine.pc fits call.enters (λ e. other (sym is ∙ e)) (ap runtime_call is ∙ none))
     by_case (inr at) = record {
       at = at;
       steps = step_by p d s at.function at.item items.Epilogue at.here at.placed at.epilogue;

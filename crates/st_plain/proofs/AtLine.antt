@@ -31,7 +31,8 @@ use Rattle.st_step.specs.Moves.{Stops, move_of, register, written, results, at_p
 use Rattle.st_step.specs.Runs.{Situation, AreWords, moved}
 use Rattle.st_step.proofs.Writes.{pc-written}
 use Rattle.st_plain.specs.Code.{code_at, item_address, HasItem}
-use Rattle.st_plain.specs.Frames.{IsHeldAs, value_in, HasFile, HasSlots}
+use Rattle.st_step.specs.Frames.{value_in}
+use Rattle.st_plain.specs.Frames.{IsHeldAs, HasFile, HasSlots}
 use Rattle.st_plain.specs.Running.{Leads}
 use Rattle.st_plain.specs.Standing.{on_stack, Stands}
 use Rattle.st_plain.proofs.Turning.{TurnGoes}

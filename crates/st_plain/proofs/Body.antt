@@ -18,7 +18,8 @@ use Rattle.st_step.specs.Moves.{register, written, at_place}
 use Rattle.st_step.specs.Runs.{Situation, AreWords, return_word, caller_word}
 use Rattle.st_step.proofs.SavedList.{saved_counted}
 use Rattle.st_step.proofs.Writes.{length-written, lo-written, hi-written, zero-written, values-written, register-written_other}
-use Rattle.st_plain.specs.Frames.{IsHeldAs, value_in, HasFile, IsFrameless, HasSlots, is_kept, with_saved_values, Below}
+use Rattle.st_step.specs.Frames.{value_in, IsFrameless, is_kept, with_saved_values}
+use Rattle.st_plain.specs.Frames.{IsHeldAs, HasFile, HasSlots, Below}
 use Rattle.st_plain.specs.Standing.{stack_start, IsMachine, StandsIn, HasFrames}
 use Rattle.st_plain.proofs.FrameWords.{saved_agrees, below_same}
 use Rattle.st_plain.proofs.FrameSums.{below_sum, below_multiple}

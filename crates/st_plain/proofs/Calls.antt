@@ -21,7 +21,7 @@ use Rattle.st_model.specs.Ordinary.{step, item_at, apply}
 use Rattle.st_step.specs.Moves.{register}
 use Rattle.st_step.specs.Runs.{Situation}
 use Rattle.st_plain.specs.Code.{item_address, HasItem}
-use Rattle.st_plain.specs.Frames.{value_in}
+use Rattle.st_step.specs.Frames.{value_in}
 use Rattle.st_plain.specs.Running.{Leads}
 use Rattle.st_plain.specs.Standing.{on_stack, HasFrames, StandsIn, Stands, Enters, AtCall}
 use Rattle.st_plain.proofs.Addresses.{address_bounds, next_address}

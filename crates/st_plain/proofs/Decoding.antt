@@ -4,7 +4,7 @@ use Rattle.std.proofs.Common.{◌≡◌, ℕ, suc, ◌+◌, ◌<◌, ◌≤◌, 
 use Rattle.std.proofs.Math.Seq.{drop-cons}
 use Rattle.std.proofs.lemmas.List.{drop_all, append-nil}
 use Rattle.st_rv.specs.declared.ins.Ins.{Ins}
-use Rattle.st_step.specs.declared.sort.Sorted.{Sorted}
+use Rattle.st_step.specs.declared.decoded.Decoded.{Decoded}
 use Rattle.st_plain.specs.Code.{instructions_of}
 use Rattle.st_rv.specs.Rows.{IsRow}
 use Rattle.st_model.specs.Layout.{AreWords}
@@ -48,10 +48,10 @@ pub none_decoded : (whole : List Ins) (words : List ℕ) → AreWords whole word
 none_decoded whole words are = (whole, refl, are)
 
 -- with one more in the table
-pub with_sorted : (table : List Sorted) (s : Sorted) (i : Ins) → s.ins ≡ i → instructions_of (table ++ s ∷ []) ≡ instructions_of table ++ i ∷ []
-with_sorted [] s i e = ap (λ (k : Ins). k ∷ []) e
-with_sorted (t ∷ table) s i e = ap (λ (is : List Ins). t.ins ∷ is) (with_sorted table s i e)
+pub with_decoded : (table : List Decoded) (s : Decoded) (i : Ins) → s.ins ≡ i → instructions_of (table ++ s ∷ []) ≡ instructions_of table ++ i ∷ []
+with_decoded [] s i e = ap (λ (k : Ins). k ∷ []) e
+with_decoded (t ∷ table) s i e = ap (λ (is : List Ins). t.ins ∷ is) (with_decoded table s i e)
 
 -- the instruction at a place of a table
-pub sorted_at : (table : List Sorted) (at : ℕ) (s : Sorted) → slice_get table at ≡ Some s → slice_get (instructions_of table) at ≡ Some s.ins
-sorted_at table at s e = slice_get-map (λ (t : Sorted). t.ins) table at ∙ ap (λ (o : Option Sorted). option_map (λ (t : Sorted). t.ins) o) e
+pub decoded_at : (table : List Decoded) (at : ℕ) (s : Decoded) → slice_get table at ≡ Some s → slice_get (instructions_of table) at ≡ Some s.ins
+decoded_at table at s e = slice_get-map (λ (t : Decoded). t.ins) table at ∙ ap (λ (o : Option Decoded). option_map (λ (t : Decoded). t.ins) o) e

@@ -16,7 +16,8 @@ use Rattle.st_words.specs.declared.plain.PlainBoard.{PlainBoard}
 use Rattle.st_words.specs.declared.view.View.{View}
 use Rattle.st_words.specs.Laws.{named, progress_of}
 use Rattle.st_words.specs.Plain.{Exact, Left, view_at, words_after}
-use Rattle.st_words.specs.Steps.{Step, StackLoad, StackStore, Mark, Answer, Done, Number, Asks, Holds, IsLeased}
+use Rattle.st_words.specs.Made.{Asked, StepMade}
+use Rattle.st_words.specs.Steps.{Step, StackLoad, StackStore, Mark, Answer, Done, Number, Can, Holds, IsLeased}
 use Rattle.st_words.specs.Views.{Does, IsFree, view_after, without_returning}
 use Rattle.st_words.proofs.Naming.{plain_asks, store_laws}
 use Rattle.st_step.specs.declared.state.State.{State as MachineState}
@@ -34,12 +35,26 @@ after v s a = named (progress_of v) v s a
 abbrev pub view_of : PlainBoard → View
 view_of board = view_at board.kept.views 0
 
--- what a step of the one worker answers and leaves
-abbrev pub says_of : PlainBoard → Step → Answer → Type 0
-says_of board s a = Exact board.words board.kept.loads 0 s a
+-- the members of the board, of any worker
+abbrev view_on : PlainBoard → ℕ → View
+view_on board w = view_at board.kept.views w
 
-abbrev pub did_of : PlainBoard → Step → Answer → PlainBoard → Type 0
-did_of board s a new = Left board.words board.kept.loads board.kept.views 0 s a new.words new.kept.loads new.kept.views
+abbrev serves_on : PlainBoard → ℕ → Type 0
+serves_on board w = w < length board.kept.views
+
+abbrev says_on : PlainBoard → ℕ → Step → Answer → Type 0
+says_on board w s a = Exact board.words board.kept.cargoes w s a
+
+abbrev did_on : PlainBoard → ℕ → Step → Answer → PlainBoard → Type 0
+did_on board w s a new = Left board.words board.kept.cargoes board.kept.views w s a new.words new.kept.cargoes new.kept.views
+
+-- what the one worker asks of a step
+abbrev pub AskedOf : PlainBoard → Step → Type 0
+AskedOf board s = Asked {Board = PlainBoard} view_on serves_on says_on (λ b. IsFree) (λ b. Does) after board 0 s
+
+-- and what the step leaves
+abbrev pub MadeOf : PlainBoard → Step → Answer → PlainBoard → Type 0
+MadeOf board s a new = StepMade {Board = PlainBoard} view_on serves_on says_on did_on after board 0 s a new
 
 held_there : (held : Bool) (s t : Situation) → where_held held s ≡ Some t → held ≡ true
 held_there true s t e = refl
@@ -78,11 +93,14 @@ speaks_within n s t (Marks p m) e = within n p (held_there _ _ t e)
 speaks_within n s t (Stops end) e = cc
 speaks_within n s t Outside e = cc
 
-pub may_execute : (board : PlainBoard) (move : Move) → HasBoard board → SpeaksWithin (length board.words.stack) move → MayMove (λ st. Asks (says_of board) IsFree Does after (view_of board) st) move
+may_ask : (board : PlainBoard) (s : Step) → HasBoard board → Can (view_of board) s → AskedOf board s
+may_ask board s has can = let one = has.one in record { serves = omega arith; may = plain_asks (says_on board 0) (view_of board) s can }
+
+pub may_execute : (board : PlainBoard) (move : Move) → HasBoard board → SpeaksWithin (length board.words.stack) move → MayMove (AskedOf board) move
 may_execute board (Goes m) has within_it = tt
-may_execute board (Reads p go) has within_it = plain_asks (says_of board) (view_of board) (StackLoad p) (has.holds p within_it)
-may_execute board (Writes p n m) has within_it = plain_asks (says_of board) (view_of board) (StackStore p n) (has.holds p within_it)
-may_execute board (Marks p m) has within_it = plain_asks (says_of board) (view_of board) (Mark p) (has.holds p within_it)
+may_execute board (Reads p go) has within_it = may_ask board (StackLoad p) has (has.holds p within_it)
+may_execute board (Writes p n m) has within_it = may_ask board (StackStore p n) has (has.holds p within_it)
+may_execute board (Marks p m) has within_it = may_ask board (Mark p) has (has.holds p within_it)
 may_execute board (Stops end) has within_it = tt
 may_execute board Outside has within_it = absurd within_it
 
@@ -147,35 +165,35 @@ mark_away v p away = ap (λ (fs : List Frame). without_returning p fs) away
 -- ---- what a move leaves
 
 abbrev pub MovesOf : PlainBoard → MachineState → Move → StepEnd → MachineState → PlainBoard → Type 0
-MovesOf board m move end m' new = Moves {Board = PlainBoard} (says_of board) (did_of board) (after (view_of board)) view_of board m move end m' new
+MovesOf board m move end m' new = Moves {Board = PlainBoard} (MadeOf board) board m move end m' new
 
 pub keeps_board : (board new : PlainBoard) (m m' : MachineState) (move : Move) (end : StepEnd) → HasBoard board → MovesOf board m move end m' new → HasBoard new
 keeps_board board new m m' (Goes next) end has moves = subst HasBoard (sym moves.2) has
 keeps_board board new m m' (Reads p go) end has moves =
     let n = moves.1.0 in
-    let did = moves.1.1.1 in
-    let view = moves.1.1.2 ∙ loaded_view (view_of board) p n in
+    let did = moves.1.1.did in
+    let view = moves.1.1.view ∙ loaded_view (view_of board) p n in
     let long : length new.words.stack ≡ length board.words.stack = ap (λ x. length x.stack) (did.words ∙ loaded_words board p n) in
     board_left board new (view_of board) did.workers has view (λ q few. has.holds q (omega (arith, few, long))) has.none_exported has.none_away
 keeps_board board new m m' (Writes p n next) end has moves =
-    let did = moves.2.1 in
+    let did = moves.2.did in
     let v = view_of board in
     let long : length new.words.stack ≡ length board.words.stack = ap (λ x. length x.stack) did.words ∙ ap length (stored_stack board p n) ∙ length-set board.words.stack p n in
-    board_left board new (after v (StackStore p n) Done) did.workers has moves.2.2 (λ q few. stored_there v p n q (q == p) refl (has.holds q (omega (arith, few, long)))) ((store_frames v p n).0 ∙ has.none_exported) ((store_frames v p n).1 ∙ has.none_away)
+    board_left board new (after v (StackStore p n) Done) did.workers has moves.2.view (λ q few. stored_there v p n q (q == p) refl (has.holds q (omega (arith, few, long)))) ((store_frames v p n).0 ∙ has.none_exported) ((store_frames v p n).1 ∙ has.none_away)
 keeps_board board new m m' (Marks p next) end has moves =
-    let did = moves.2.1 in
+    let did = moves.2.did in
     let v = view_of board in
     let long : length new.words.stack ≡ length board.words.stack = ap (λ x. length x.stack) did.words ∙ ap length (marked_stack board p) ∙ length-set board.words.stack p 0 in
-    board_left board new (after v (Mark p) Done) did.workers has moves.2.2 (λ q few. marked_there v p q (q == p) refl has.none_exported has.none_away (has.holds q (omega (arith, few, long)))) (mark_laws.exported v p ∙ has.none_exported) (mark_away v p has.none_away)
+    board_left board new (after v (Mark p) Done) did.workers has moves.2.view (λ q few. marked_there v p q (q == p) refl has.none_exported has.none_away (has.holds q (omega (arith, few, long)))) (mark_laws.exported v p ∙ has.none_exported) (mark_away v p has.none_away)
 keeps_board board new m m' (Stops e) end has moves = subst HasBoard (sym moves.2) has
 keeps_board board new m m' Outside end has moves = absurd moves
 
 -- there are as many words as before
 pub keeps_long : (board new : PlainBoard) (m m' : MachineState) (move : Move) (end : StepEnd) → MovesOf board m move end m' new → length new.words.stack ≡ length board.words.stack
 keeps_long board new m m' (Goes next) end moves = ap (λ (b : PlainBoard). length b.words.stack) moves.2
-keeps_long board new m m' (Reads p go) end moves = ap (λ x. length x.stack) (moves.1.1.1.words ∙ loaded_words board p moves.1.0)
-keeps_long board new m m' (Writes p n next) end moves = ap (λ x. length x.stack) moves.2.1.words ∙ ap length (stored_stack board p n) ∙ length-set board.words.stack p n
-keeps_long board new m m' (Marks p next) end moves = ap (λ x. length x.stack) moves.2.1.words ∙ ap length (marked_stack board p) ∙ length-set board.words.stack p 0
+keeps_long board new m m' (Reads p go) end moves = ap (λ x. length x.stack) (moves.1.1.did.words ∙ loaded_words board p moves.1.0)
+keeps_long board new m m' (Writes p n next) end moves = ap (λ x. length x.stack) moves.2.did.words ∙ ap length (stored_stack board p n) ∙ length-set board.words.stack p n
+keeps_long board new m m' (Marks p next) end moves = ap (λ x. length x.stack) moves.2.did.words ∙ ap length (marked_stack board p) ∙ length-set board.words.stack p 0
 keeps_long board new m m' (Stops e) end moves = ap (λ (b : PlainBoard). length b.words.stack) moves.2
 keeps_long board new m m' Outside end moves = absurd moves
 
@@ -194,18 +212,18 @@ executes board new m m' (Goes next) end t stack long e moves =
     (moves.0, ap (λ (b : PlainBoard). situation m' b.words.stack) moves.2 ∙ ap (λ (k : MachineState). situation k board.words.stack) moves.1 ∙ f)
 executes board new m m' (Reads p go) end t stack long e moves =
     let n = moves.1.0 in
-    let did = moves.1.1.1 in
+    let did = moves.1.1.did in
     let f = goes_there _ _ t e in
-    let word : slice_index board.words.stack p ≡ n = get_or_from_slice_get board.words.stack p n 0 moves.1.1.0 in
+    let word : slice_index board.words.stack p ≡ n = get_or_from_slice_get board.words.stack p n 0 moves.1.1.said in
     (moves.0, ap (λ x. situation m' x.stack) (did.words ∙ loaded_words board p n) ∙ ap (λ (k : MachineState). situation k board.words.stack) (moves.1.2 ∙ ap go (sym word)) ∙ f)
 executes board new m m' (Writes p n next) end t stack long e moves =
-    let did = moves.2.1 in
+    let did = moves.2.did in
     let f = goes_there _ _ t e in
     let inside : p < length board.words.stack = (let g = within _ p (held_there _ _ t e) in omega (arith, g, long)) in
     let words : (λ q. slice_index (slice_set board.words.stack p n) q) ≡ stored p n (λ q. slice_index board.words.stack q) = fun_ext (λ q. sym (stored_are board.words.stack p n q (q == p) refl inside)) in
     (moves.0, ap (λ (x : List ℕ). situation m' x) (ap (λ x. x.stack) did.words ∙ stored_stack board p n) ∙ ap (λ (k : MachineState). situation k (slice_set board.words.stack p n)) moves.1 ∙ ap (λ (w : ℕ → ℕ). record { state = next; word = w }) words ∙ f)
 executes board new m m' (Marks p next) end t stack long e moves =
-    let did = moves.2.1 in
+    let did = moves.2.did in
     let f = goes_there _ _ t e in
     let inside : p < length board.words.stack = (let g = within _ p (held_there _ _ t e) in omega (arith, g, long)) in
     let words : (λ q. slice_index (slice_set board.words.stack p 0) q) ≡ stored p 0 (λ q. slice_index board.words.stack q) = fun_ext (λ q. sym (stored_are board.words.stack p 0 q (q == p) refl inside)) in

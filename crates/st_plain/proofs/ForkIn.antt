@@ -34,7 +34,7 @@ use Rattle.st_plain.specs.declared.cells.Note.{Note}
 use Rattle.st_plain.specs.declared.run.PlainRun.{PlainRun}
 use Rattle.st_plain.specs.declared.stop.Ending.TheVariants as endings
 use Rattle.st_plain.specs.Code.{word_index, item_address, handles_of, HasItem}
-use Rattle.st_plain.specs.Frames.{value_in, IsFork}
+use Rattle.st_step.specs.Frames.{value_in, IsFork}
 use Rattle.st_plain.specs.Running.{HasTables, IsAtEntry, OnWay, GoesOn, EndsBy}
 use Rattle.st_plain.specs.Standing.{on_stack, situation, IsMachine, Stands}
 use Rattle.st_plain.specs.Threads.{NotesStand, forked_notes}
@@ -53,23 +53,23 @@ use Rattle.st_plain.proofs.Turns.{begun}
 fork_size : (function : ProgramFunction) (kind : ItemKind) (g : ℕ) (handle : Reg) → kind ≡ items.Fork g handle → item_size Unchanged function kind ≡ 3
 fork_size function kind g handle is = ap (item_size Unchanged function) is
 
-module _ (p : Program) (d : Data) (image : Image) (limits : Limits) (r r' : PlainRun) (names : List Held) (s : State) (tables : HasTables p image limits r) (entry : IsAtEntry p limits r names s) (is_fork : r.machine.state.pc ≡ 0x10) where
-  making : IsForking p d limits names (situation r.machine.state r.board.words.stack) s
+module _ (p : Program) (d : Data) (image : Image) (limits : Limits) (r r' : PlainRun) (names : List Held) (s : State) (tables : HasTables p image limits r) (entry : IsAtEntry p limits r names s) (is_fork : r.machine.pc ≡ 0x10) where
+  making : IsForking p d limits names (situation r.machine r.board.words.stack) s
   making = forking p d image limits r names s tables.is_plain entry is_fork
 
   has_fork : HasItem p s.top.function making.at.stands.function s.top.next making.at.item
   has_fork = record { named = making.at.stands.here; placed = making.at.placed }
 
   -- the table has the fork's register
-  fork_handle : slice_get r.code.handles.items (word_index (register r.machine.state registers.Ra - 4)) ≡ Some making.handle
+  fork_handle : slice_get r.code.handles.items (word_index (register r.machine registers.Ra - 4)) ≡ Some making.handle
   fork_handle =
-      let word = back_word p limits.stack names (situation r.machine.state r.board.words.stack) s making.at in
-      ap (λ (table : List Reg). slice_get table (word_index (register r.machine.state registers.Ra - 4))) tables.handles
+      let word = back_word p limits.stack names (situation r.machine r.board.words.stack) s making.at in
+      ap (λ (table : List Reg). slice_get table (word_index (register r.machine registers.Ra - 4))) tables.handles
       ∙ ap (λ (n : ℕ). slice_get (handles_of image.forks (replicate (length image.words) registers.Zero)) (word_index n)) word
       ∙ handle_at p image s.top.function making.at.stands.function s.top.next making.at.item making.f making.handle tables.is_plain has_fork making.kind
 
-  pub fork_inside : word_index (register r.machine.state registers.Ra - 4) < length r.code.handles.items
-  fork_inside = within_list r.code.handles.items (word_index (register r.machine.state registers.Ra - 4)) making.handle fork_handle
+  pub fork_inside : word_index (register r.machine registers.Ra - 4) < length r.code.handles.items
+  fork_inside = within_list r.code.handles.items (word_index (register r.machine registers.Ra - 4)) making.handle fork_handle
 
   callee : ProgramFunction
   callee = making.fits.0.0
@@ -98,7 +98,7 @@ module _ (p : Program) (d : Data) (image : Image) (limits : Limits) (r r' : Plai
 
   -- the fork's second jump, and where it leads
   before : Situation
-  before = situation (at_place (register r.machine.state registers.Ra) r.machine.state) r.board.words.stack
+  before = situation (at_place (register r.machine registers.Ra) r.machine) r.board.words.stack
 
   machine_before : IsMachine limits.stack before
   unfolding before
@@ -117,7 +117,7 @@ module _ (p : Program) (d : Data) (image : Image) (limits : Limits) (r r' : Plai
       let back = making.at.back in
       let size = fork_size function making.at.item.kind making.f making.handle making.kind in
       let jump = fork_call_jumps p s.top.function function s.top.next making.at.item making.f making.handle tables.is_plain.size has_fork making.kind in
-      let jumps : JumpsTo p (register r.machine.state registers.Ra) registers.Ra (function_address Unchanged p making.f) = subst (λ (pc : ℕ). JumpsTo p pc registers.Ra (function_address Unchanged p making.f)) (sym back) jump in (
+      let jumps : JumpsTo p (register r.machine registers.Ra) registers.Ra (function_address Unchanged p making.f) = subst (λ (pc : ℕ). JumpsTo p pc registers.Ra (function_address Unchanged p making.f)) (sym back) jump in (
         inr (record { f = s.top.function; function = function; i = s.top.next; item = making.at.item; has = has_fork; k = 1; some = omega arith; few = omega (arith, size); at = back ∙ (let e : item_address p s.top.function function s.top.next + 4 ≡ item_address p s.top.function function s.top.next + 4 * 1 = omega arith in e) }),
         (behind, record { ins = upper_ins ops.Jal registers.Ra jumps.distance; there = jumps.there; goes = link_goes d (on_stack limits.stack) before jumps.distance (function_address Unchanged p making.f) jumps.goes }, refl),
       )
@@ -126,7 +126,7 @@ module _ (p : Program) (d : Data) (image : Image) (limits : Limits) (r r' : Plai
   unfolding behind next
   fork_stands =
       let more = Future (s.rest.thread.path ++ s.rest.thread.forks ∷ []) ∷ [] in
-      let t = situation r.machine.state r.board.words.stack in
+      let t = situation r.machine r.board.words.stack in
       let function = making.at.stands.function in
       let grown = call_grows names more p limits.stack t s making.begun making.at in
       let target = function_address Unchanged p making.f in
@@ -138,12 +138,12 @@ module _ (p : Program) (d : Data) (image : Image) (limits : Limits) (r r' : Plai
       let frames = begun p limits.stack (names ++ more) t function s s.top.next making.begun grown.stands.frames in
       let placed : slice_get function.items (s.top.next + 1 - 1) ≡ Some making.at.item = ap (slice_get function.items) (let e : s.top.next + 1 - 1 ≡ s.top.next = omega arith in e) ∙ making.at.placed in
       stands_entered p limits.stack (names ++ more) behind s function callee making.f Forked next.rest making.at.stands.here callee_is (linked_machine limits.stack before target (omega (arith, low.1)) machine_before)
-      (file_over (names ++ more) s.registers (value_in r.machine.state) (value_in behind.state) making.at.stands.frameless (λ x not_ra not_sp not_fp. sym (linked_other before target x not_ra)) grown.stands.file)
+      (file_over (names ++ more) s.registers (value_in r.machine) (value_in behind.state) making.at.stands.frameless (λ x not_ra not_sp not_fp. sym (linked_other before target x not_ra)) grown.stands.file)
       (frames_over p limits.stack (names ++ more) before.state behind.state t.word function s tables.is_plain.accepted (linked_stay before target) frames)
       (omega (arith, ra, back, further, size), (making.at.item, placed, subst IsFork {x = items.Fork making.f making.handle} {y = making.at.item.kind} (sym making.kind) tt)) refl tt refl refl refl
 
-  pub fork_goes : (handle : Reg) → slice_get r.code.handles.items (word_index (register r.machine.state registers.Ra - 4)) ≡ Some handle → nat_lt (length r.threads.cells.items.items) r.threads.cells.most ≡ true
-      → r'.machine.state ≡ at_place (register r.machine.state registers.Ra) r.machine.state → r'.board.words.stack ≡ r.board.words.stack
+  pub fork_goes : (handle : Reg) → slice_get r.code.handles.items (word_index (register r.machine registers.Ra - 4)) ≡ Some handle → nat_lt (length r.threads.cells.items.items) r.threads.cells.most ≡ true
+      → r'.machine ≡ at_place (register r.machine registers.Ra) r.machine → r'.board.words.stack ≡ r.board.words.stack
       → r'.threads.cells.items.items ≡ r.threads.cells.items.items ++ FutureCell None ∷ [] → reverse r'.threads.notes.items.items ≡ forked_notes (length r.threads.cells.items.items) handle (reverse r.threads.notes.items.items)
       → r'.threads.out.items.items ≡ r.threads.out.items.items → GoesOn p d limits (length r.threads.cells.items.items) r' s
   unfolding before next
@@ -151,7 +151,7 @@ module _ (p : Program) (d : Data) (image : Image) (limits : Limits) (r r' : Plai
       let kept = entry.kept in
       let cells = r.threads.cells.items.items in
       let name : Held = Future (s.rest.thread.path ++ s.rest.thread.forks ∷ []) in
-      let m = at_place (register r.machine.state registers.Ra) r.machine.state in
+      let m = at_place (register r.machine registers.Ra) r.machine in
       let own = fork_handle in
       let same : handle ≡ making.handle = cc in
       let inside = ltb-true (length cells) r.threads.cells.most room in

@@ -13,7 +13,8 @@ use Rattle.st_model.specs.Bounded.{frame_held, frames_held}
 use Rattle.st_model.specs.Effect.{File}
 use Rattle.st_model.specs.Layout.{saved_of}
 use Rattle.st_step.specs.Runs.{IsBase, HoldsFrame, return_word, caller_word}
-use Rattle.st_plain.specs.Frames.{with_saved_values, parents_below, Below}
+use Rattle.st_step.specs.Frames.{with_saved_values}
+use Rattle.st_plain.specs.Frames.{parents_below, Below}
 use Rattle.st_plain.specs.Standing.{stack_start, on_stack}
 
 held_begun : (bytes next : ℕ) → 0 < next → frame_held bytes next ≡ bytes

@@ -20,7 +20,8 @@ use Rattle.st_step.specs.declared.state.State.{State as MachineState}
 use Rattle.st_step.specs.Moves.{register}
 use Rattle.st_step.specs.Runs.{AreWords, stored, return_word, caller_word, saved_word, with_saved, with_frame}
 use Rattle.st_step.proofs.SavedList.{saved_fit}
-use Rattle.st_plain.specs.Frames.{IsHeldAs, value_in, is_kept, HasSlots, with_saved_values, parents_below, Below}
+use Rattle.st_step.specs.Frames.{value_in, is_kept, with_saved_values}
+use Rattle.st_plain.specs.Frames.{IsHeldAs, HasSlots, parents_below, Below}
 use Rattle.st_plain.specs.Standing.{stack_start}
 
 -- ---- stored words

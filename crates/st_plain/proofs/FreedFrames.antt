@@ -1,5 +1,5 @@
 -- An epilogue frees its activation's frame (frees): it goes back to the caller (return_goes), or to the entry that ends a thread (ends).
-use Rattle.std.proofs.Common.{◌≡◌, ◌≢◌, ℕ, suc, ◌+◌, ◌-◌, ◌*◌, ◌^◌, ◌<◌, ◌≤◌, ◌%◌, List, [], ◌∷◌, ◌++◌, length, Option, Some, None, refl, ap, sym, ◌∙◌, subst, arith, pos, ◌-ℤ◌, slice_get, inr, length-append}
+use Rattle.std.proofs.Common.{◌≡◌, ◌≢◌, ℕ, suc, ◌+◌, ◌-◌, ◌*◌, ◌^◌, ◌<◌, ◌≤◌, ◌%◌, List, [], ◌∷◌, length, Option, Some, None, refl, ap, sym, ◌∙◌, subst, arith, slice_get, inr}
 use Rattle.st_base.specs.declared.thread.Held.{Held}
 use Rattle.st_base.specs.declared.thread.Held.TheVariants.{Number, Future, Counter}
 use Rattle.st_base.specs.declared.thread.Activation.{Activation}
@@ -21,16 +21,17 @@ use Rattle.st_model.specs.declared.ordinary.Turn.{Turn}
 use Rattle.st_model.specs.declared.ordinary.Turn.TheVariants.{Undefined}
 use Rattle.st_model.specs.Accepted.{IsAccepted, IsPrologue}
 use Rattle.st_model.specs.Effect.{File, number_of, int, with_number, left_by, IsFirst}
-use Rattle.st_model.specs.Layout.{HasSize, item_place, item_size, saved_of, loads, ld, addi, return, fork_out, upper_ins}
+use Rattle.st_model.specs.Layout.{HasSize, item_place, item_size, saved_of, fork_out, upper_ins}
 use Rattle.st_model.specs.Memory.{Data}
 use Rattle.st_model.specs.Ordinary.{step, item_at, apply, returned_to}
 use Rattle.st_step.specs.Moves.{register, written, at_place}
 use Rattle.st_step.specs.Runs.{Situation, IsBase, IsReturn, return_word, caller_word, restored}
 use Rattle.st_step.proofs.Epilogues.{epilogue_law}
-use Rattle.st_step.proofs.Restoring.{length-loads, length-restored}
+use Rattle.st_step.proofs.Restoring.{length-restored}
 use Rattle.st_step.proofs.Writes.{length-written}
 use Rattle.st_plain.specs.Code.{code_at, item_address, HasItem}
-use Rattle.st_plain.specs.Frames.{value_in, HasFile, with_saved_values, IsFork, ComesBack, end_entry, Below}
+use Rattle.st_step.specs.Frames.{value_in, with_saved_values, IsFork}
+use Rattle.st_plain.specs.Frames.{HasFile, ComesBack, end_entry, Below}
 use Rattle.st_plain.specs.Running.{IsBehind, Leads}
 use Rattle.st_plain.specs.Standing.{stack_start, on_stack, IsMachine, HasFrames, Stands, EndsAt, AtEnd}
 use Rattle.st_plain.proofs.Addresses.{address_bounds, address_multiple, place_bounds, next_address}
@@ -40,7 +41,7 @@ use Rattle.st_plain.proofs.Jumps.{JumpsTo, fork_out_jumps}
 use Rattle.st_plain.proofs.KeptFiles.{not_kept, file_returned, frameless_returned}
 use Rattle.st_plain.proofs.Linking.{linked, link_goes, linked_other, linked_ra, linked_machine, linked_stay, Older, older_over}
 use Rattle.st_plain.proofs.SavedRegisters.{value-written_other, value-written_same, written_whole, saved_rising, saved_few, saved_same, saved_unkept, restored_value, restored_whole}
-use Rattle.st_plain.proofs.Straightly.{straight_before, loads_straight, LeadsBy, leads, leads_further, item_leads}
+use Rattle.st_plain.proofs.Straightly.{LeadsBy, leads, leads_further, item_leads}
 use Rattle.st_plain.proofs.Turning.{TurnGoes}
 use Rattle.st_plain.proofs.Turns.{item_of, formed_of, behind_prologue, step_is, item_words, begun, framed, whole_of, machine_at}
 
@@ -115,14 +116,8 @@ frees p d stack names t s item accepted size few multiple stands there kind =
     let called = written loaded registers.S0 fp in
     let final = written called registers.Sp b in
     let u : Situation = record { state = at_place ret final; word = w } in
-    let ran_is = epilogue_law d (code_at p) (on_stack stack) function t (item_place Unchanged function i) b machine.words formed.frame code base (holds_frame stack bytes b to) (omega arith) target (record { below = low }) in
-    let last = addi registers.Sp registers.Sp (pos bytes) ∷ return ∷ [] in
-    let longer = length-append (loads registers.Sp (pos bytes) 0 saved) last in
-    let loads_long = length-loads registers.Sp (pos bytes) 0 saved in
-    let way = item_leads p d stack s.top.function function i item has (ld registers.Ra (pos bytes -ℤ pos 8) registers.Sp) (ld registers.S0 (pos bytes -ℤ pos 16) registers.Sp)
-    (loads registers.Sp (pos bytes) 0 saved ++ last) (4 + length saved) (item_place Unchanged function i) t u
-    (refl, straight_before (ld registers.S0 (pos bytes -ℤ pos 16) registers.Sp) (loads registers.Sp (pos bytes) 0 saved ++ last) refl (loads_straight registers.Sp (pos bytes) 0 saved last (refl, tt)))
-    code pc (omega arith) (omega arith) low ran_is in
+    let runs = epilogue_law d (code_at p) (on_stack stack) function t m.lo (item_place Unchanged function i) b machine.words formed.frame code base (holds_frame stack bytes b to) (omega arith) target (record { below = low }) in
+    let way = item_leads p d stack s.top.function function i item has (4 + length saved) (4 + length saved) t u pc (omega arith) runs in
     let count = machine.has_registers.count in
     let loaded_count : length loaded.registers ≡ 32 = length-restored w b 0 saved first ∙ length-written m registers.Ra ret ∙ count in
     let called_count : length called.registers ≡ 32 = length-written loaded registers.S0 fp ∙ loaded_count in

@@ -30,7 +30,8 @@ use Rattle.st_step.proofs.Writes.{length-written, zero-written, values-written, 
 use Rattle.st_plain.specs.declared.cells.Cell.{Cell}
 use Rattle.st_plain.specs.declared.run.PlainRun.{PlainRun}
 use Rattle.st_plain.specs.Code.{item_address, HasItem}
-use Rattle.st_plain.specs.Frames.{value_in, IsHeldAs, is_kept, HasFile, IsFrameless, HasSlots, with_saved_values, Below}
+use Rattle.st_step.specs.Frames.{value_in, is_kept, IsFrameless, with_saved_values}
+use Rattle.st_plain.specs.Frames.{IsHeldAs, HasFile, HasSlots, Below}
 use Rattle.st_plain.specs.Running.{OnWay, limit_met, GoesOn}
 use Rattle.st_plain.specs.Standing.{stack_start, situation, IsMachine, HasFrames, Stands, AtCall}
 use Rattle.st_plain.specs.Threads.{NamesStand, NotesStand}
@@ -186,7 +187,7 @@ written_stands p stack names t s r n held rest accepted at size begun apart may 
 pub goes_by : (p : Program) (d : Data) (limits : Limits) (drawn : ℕ) (r : PlainRun) (s s' : State) (names : List Held) (n : ℕ) (t : Situation) (m : MachineState) (words : List ℕ) (cells : List Cell) (out : List ℕ)
     → limit_met p limits drawn s ≡ None → step p d s ≡ Goes s' → HandlesIn p s → n ≤ 20 → OnWay p d limits.stack n (situation m words) t → Stands p limits.stack names t s' → NamesStand names cells s'.rest
     → NotesStand names (reverse r.threads.notes.items.items) (s'.rest.thread ∷ s'.rest.parents) → s'.rest.out ≡ out → length cells ≤ limits.cells → length out ≤ 1048576 → length cells ≡ drawn + drawn_by (item_at p s.top)
-    → r.machine.state ≡ m → r.board.words.stack ≡ words → r.threads.cells.items.items ≡ cells → r.threads.out.items.items ≡ out → GoesOn p d limits drawn r s
+    → r.machine ≡ m → r.board.words.stack ≡ words → r.threads.cells.items.items ≡ cells → r.threads.out.items.items ≡ out → GoesOn p d limits drawn r s
 goes_by p d limits drawn r s s' names n t m words cells out passes steps handles few way stands names_stand notes_stand printed few_cells few_bytes drew machine_is words_are cells_are out_is = record {
   passes = passes;
   s' = s';

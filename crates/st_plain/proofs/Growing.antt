@@ -13,7 +13,8 @@ use Rattle.st_model.specs.Layout.{saved_of}
 use Rattle.st_model.specs.declared.ordinary.State.{State}
 use Rattle.st_step.specs.Runs.{Situation, return_word, caller_word}
 use Rattle.st_plain.specs.Standing.{HasFrames, StandsIn}
-use Rattle.st_plain.specs.Frames.{value_in, IsHeldAs, HasFile, HasSlots, with_saved_values, IsCaller, parents_below, Below}
+use Rattle.st_step.specs.Frames.{value_in, with_saved_values}
+use Rattle.st_plain.specs.Frames.{IsHeldAs, HasFile, HasSlots, IsCaller, parents_below, Below}
 
 -- ---- lists
 

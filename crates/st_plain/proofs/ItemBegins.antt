@@ -77,9 +77,9 @@ begins_standing p image d stack names t s pi stands defined =
     let same : item_address p s.top.function function s.top.next + 4 * 0 ≡ t.state.pc = omega (arith, stands.at) in
     subst (λ a. slice_get image.begins (word_index a) ≡ Some true) same first
 
-pub begins_ready : (p : Program) (image : Image) (d : Data) (limits : Limits) (r : PlainRun) (s : State) → IsReady p image d limits r s → slice_get image.begins (word_index r.machine.state.pc) ≡ Some true
+pub begins_ready : (p : Program) (image : Image) (d : Data) (limits : Limits) (r : PlainRun) (s : State) → IsReady p image d limits r s → slice_get image.begins (word_index r.machine.pc) ≡ Some true
 begins_ready p image d limits r s ready =
-    begins_standing p image d limits.stack ready.at.names (situation r.machine.state r.board.words.stack) s ready.tables.is_plain ready.at.stands ready.defined
+    begins_standing p image d limits.stack ready.at.names (situation r.machine r.board.words.stack) s ready.tables.is_plain ready.at.stands ready.defined
 
 -- ---- amid an item
 
@@ -130,17 +130,17 @@ passes_behind : (p : Program) (d : Data) (stack n : ℕ) (u t : Situation) → 1
 passes_behind p d stack zero u t some way whole = let never : ⊥ = omega (arith, some) in absurd never
 passes_behind p d stack (suc n) u t some way whole = whole_inside p u.state way.0 whole
 
-amid_behind : (p : Program) (d : Data) (limits : Limits) (drawn : ℕ) (r : PlainRun) (s : State) (left : ℕ) → IsAccepted p → IsAmid p d limits drawn r s left → left < 42 → 0x10000 ≤ r.machine.state.pc → r.machine.state.half ≡ None → IsBehind p r.machine.state.pc
+amid_behind : (p : Program) (d : Data) (limits : Limits) (drawn : ℕ) (r : PlainRun) (s : State) (left : ℕ) → IsAccepted p → IsAmid p d limits drawn r s left → left < 42 → 0x10000 ≤ r.machine.pc → r.machine.half ≡ None → IsBehind p r.machine.pc
 amid_behind p d limits drawn r s left accepted (inl starts) few code whole = let never : ⊥ = omega (arith, starts.0, few) in absurd never
 amid_behind p d limits drawn r s left accepted (inr (inl calls)) few code whole =
-    calls_behind p d limits.stack calls.n calls.names (situation r.machine.state r.board.words.stack) calls.t s accepted calls.way calls.at code whole
+    calls_behind p d limits.stack calls.n calls.names (situation r.machine r.board.words.stack) calls.t s accepted calls.way calls.at code whole
 amid_behind p d limits drawn r s left accepted (inr (inr passes)) few code whole =
-    passes_behind p d limits.stack passes.goes.comes.n (situation r.machine.state r.board.words.stack) passes.goes.comes.t passes.some passes.goes.comes.way whole
+    passes_behind p d limits.stack passes.goes.comes.n (situation r.machine r.board.words.stack) passes.goes.comes.t passes.some passes.goes.comes.way whole
 
-pub amid_elsewhere : (p : Program) (image : Image) (d : Data) (limits : Limits) (drawn : ℕ) (r : PlainRun) (s : State) (left : ℕ) → IsUnderWay p image d limits drawn r s left → left < 42 → 0x10000 ≤ r.machine.state.pc → r.machine.state.half ≡ None → slice_get image.begins (word_index r.machine.state.pc) ≡ Some false
+pub amid_elsewhere : (p : Program) (image : Image) (d : Data) (limits : Limits) (drawn : ℕ) (r : PlainRun) (s : State) (left : ℕ) → IsUnderWay p image d limits drawn r s left → left < 42 → 0x10000 ≤ r.machine.pc → r.machine.half ≡ None → slice_get image.begins (word_index r.machine.pc) ≡ Some false
 amid_elsewhere p image d limits drawn r s left under few code whole =
     let pi = under.tables.is_plain in
-    no_beginning p image r.machine.state.pc pi (amid_behind p d limits drawn r s left pi.accepted under.amid few code whole)
+    no_beginning p image r.machine.pc pi (amid_behind p d limits drawn r s left pi.accepted under.amid few code whole)
 
 -- ---- a look at the table
 

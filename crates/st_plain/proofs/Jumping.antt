@@ -1,6 +1,6 @@
 -- Items that go elsewhere, and `li`: the words of `li` lead to the next item (li_goes), a branch to its item or the next (branch_goes), and a jump
 -- to its item (jump_goes).
-use Rattle.std.proofs.Common.{◌≡◌, inl, inr, ℕ, suc, ◌+◌, ◌-◌, ◌*◌, ◌^◌, ◌<◌, ◌≤◌, ℤ, int_lt, pos, not, ◌&&◌, Bool, true, false, cond, List, [], ◌∷◌, length, Option, Some, None, option_and_then, refl, ap, sym, ◌∙◌, subst, arith, if◌then◌else◌}
+use Rattle.std.proofs.Common.{◌≡◌, inl, inr, ℕ, ◌+◌, ◌-◌, ◌*◌, ◌^◌, ◌<◌, ◌≤◌, ℤ, int_lt, pos, not, ◌&&◌, Bool, true, false, cond, List, [], ◌∷◌, length, Some, refl, ap, sym, ◌∙◌, subst, arith, if◌then◌else◌}
 use Rattle.st_base.specs.declared.reg.Reg.{Reg}
 use Rattle.st_base.specs.declared.reg.Reg.TheVariants as registers
 use Rattle.st_base.specs.declared.thread.Held.{Held}
@@ -9,7 +9,6 @@ use Rattle.st_base.specs.Registers.{write_register}
 use Rattle.st_rv.specs.declared.ins.Op.{Op}
 use Rattle.st_rv.specs.declared.ins.Op.TheVariants as ops
 use Rattle.st_rv.specs.declared.ins.OpKind.TheVariants as kinds
-use Rattle.st_rv.specs.declared.ins.Ins.{Ins}
 use Rattle.st_rv.specs.Op.{kind_of}
 use Rattle.st_rv.specs.Results.{word_of, is_taken}
 use Rattle.st_model.specs.declared.program.Item.{Item}
@@ -28,63 +27,38 @@ use Rattle.st_model.specs.Flow.{IsNext}
 use Rattle.st_model.specs.Layout.{item_size, item_place, addi, immediate_ins, upper_ins, branch_ins, distance, is_short, low_part, high_part, with_low_part, li_ins, HasWordValue}
 use Rattle.st_model.specs.Memory.{Data}
 use Rattle.st_step.specs.Moves.{move_of, register, written, at_place, from_pc}
-use Rattle.st_step.specs.Runs.{Situation, moved, moved_by, ran, HasCode}
+use Rattle.st_step.specs.Runs.{Situation, moved}
 use Rattle.st_step.proofs.LiRuns.{li_law}
 use Rattle.st_step.proofs.ResultBounds.{word_small}
 use Rattle.st_step.proofs.Straight.{at_pc, branches, passes}
-use Rattle.st_plain.specs.Code.{code_at, item_address, HasItem}
-use Rattle.st_plain.specs.Running.{Leads}
+use Rattle.st_plain.specs.Code.{code_at, item_address}
 use Rattle.st_plain.specs.Standing.{on_stack}
 use Rattle.st_plain.proofs.Addresses.{address_bounds, next_address}
 use Rattle.st_plain.proofs.Jumps.{goto_jumps, branch_code, branch_target}
-use Rattle.st_plain.proofs.Straightly.{AreStraight, leads, leads_once, item_leads}
+use Rattle.st_plain.proofs.Straightly.{leads, leads_once, item_leads}
 use Rattle.st_plain.proofs.Turns.{item_words}
 use Rattle.st_plain.proofs.Body.{body_written}
 use Rattle.st_plain.proofs.AtLine.{IsAtLine, EffectGoes, goes_there, number_cases, number_held, line_low, line_goes_to}
 
--- ---- straight code of an item
-
-only_one : (d : Data) (code : ℕ → Option Ins) (held : ℕ → Bool) (u : Situation) (o : Option Situation) → option_and_then (ran d code held 0) o ≡ Some u → o ≡ Some u
-unfolding ran
-only_one d code held u None goes = absurd (let never : ⊥ = cc in never)
-only_one d code held u (Some v) goes = goes
-
-one_ran : (d : Data) (code : ℕ → Option Ins) (held : ℕ → Bool) (s u : Situation) (i : Ins) → code s.state.pc ≡ Some i → ran d code held 1 s ≡ Some u → moved held s (move_of d s.state i) ≡ Some u
-unfolding ran
-one_ran d code held s u i there goes = only_one d code held u (moved held s (move_of d s.state i)) (ap (λ (x : Option Ins). option_and_then (ran d code held 0) (moved_by d held s x)) (sym there) ∙ goes)
-
--- all the words of an item, of which there are at most 21
-code_leads : (p : Program) (d : Data) (stack f : ℕ) (function : ProgramFunction) (k : ℕ) (item : Item) → HasItem p f function k item → (is : List PostedIns) (at : ℕ) (s u : Situation)
-    → 0 < length is → length is ≤ 21 → AreStraight is → HasCode (code_at p) s.state.pc at is → s.state.pc ≡ item_address p f function k → length is ≤ item_size Unchanged function item.kind → s.state.pc + 4 * length is < 2 ^ 32
-    → ran d (code_at p) (on_stack stack) (length is) s ≡ Some u → Leads p d stack s u
-code_leads p d stack f function k item has [] at s u some few straight code here fits low goes = absurd (omega arith)
-code_leads p d stack f function k item has (x ∷ []) at s u some few straight code here fits low goes =
-    let first = code.0 in
-    leads_once p d stack s u first.0 first.2 (one_ran d (code_at p) (on_stack stack) s u first.0 first.2 goes)
-code_leads p d stack f function k item has (x ∷ y ∷ is) at s u some few straight code here fits low goes =
-    leads p d stack (suc (suc (length is)) - 1) s u (omega arith)
-    (item_leads p d stack f function k item has x y is (suc (suc (length is))) at s u straight code here (omega arith) fits low goes)
-
 -- ---- `li`
 
--- one or two words, of which the first goes straight to the second
+-- one or two words
 record IsLiCode (is : List PostedIns) : Type 0 where
   some : 0 < length is
   few : length is ≤ 2
-  straight : AreStraight is
 
 either_code : (b : Bool) (xs ys : List PostedIns) → IsLiCode xs → IsLiCode ys → IsLiCode (if b then xs else ys)
 either_code true xs ys first second = first
 either_code false xs ys first second = second
 
 li_two : (rd : Reg) (value : ℤ) (b : Bool) → IsLiCode (posted.Plain (upper_ins ops.Lui rd (pos (high_part value))) ∷ (if b then [] else posted.Plain (immediate_ins ops.Addiw rd rd (low_part value)) ∷ []))
-li_two rd value true = record { some = omega arith; few = omega arith; straight = tt }
-li_two rd value false = record { some = omega arith; few = omega arith; straight = (refl, tt) }
+li_two rd value true = record { some = omega arith; few = omega arith }
+li_two rd value false = record { some = omega arith; few = omega arith }
 
 li_code : (rd : Reg) (value : ℤ) → IsLiCode (li_ins rd value)
 li_code rd value =
     either_code (is_short value) (addi rd registers.Zero value ∷ []) (posted.Plain (upper_ins ops.Lui rd (pos (high_part value))) ∷ with_low_part rd (low_part value))
-    (record { some = omega arith; few = omega arith; straight = tt })
+    (record { some = omega arith; few = omega arith })
     (li_two rd value (not (int_lt (low_part value) (pos 0)) && not (int_lt (pos 0) (low_part value))))
 
 module _ (p : Program) (d : Data) (stack : ℕ) (names : List Held) (t : Situation) (s : State) (function : ProgramFunction) (item : Item) (line : IsAtLine p stack names t s function item) where
@@ -102,10 +76,11 @@ module _ (p : Program) (d : Data) (stack : ℕ) (names : List Held) (t : Situati
       let at = item_place Unchanged function s.top.next in
       let runs = li_law d (code_at p) (on_stack stack) t at rd value line.body.machine.has_registers word_value words (record { below = low }) in
       let few = code.few in
+      let some = code.some in
       let u = record t { state = at_place (t.state.pc + 4 * count) (written t.state rd (word_of value)) } in
       let next = next_address p s.top.function function s.top.next item line.has in
       goes_there p d stack names t u s function item (at_item (s.top.next + 1) s.top) (write_register s.registers rd (Number (word_of value)))
-      (code_leads p d stack s.top.function function s.top.next item line.has (li_ins rd value) at t u code.some (omega arith) code.straight words line.at (omega arith) low runs)
+      (leads p d stack (count - 1) t u (omega arith) (item_leads p d stack s.top.function function s.top.next item line.has count count t u line.at (omega arith) runs))
       (record {
         body = body_written p stack names t s function rd (Number (word_of value)) (word_of value) (t.state.pc + 4 * count) (s.top.next + 1) line.accepted fits.1 (inl fits.0) refl (word_small value word_value.1) line.body;
         begun = omega arith;

@@ -12,7 +12,8 @@ use Rattle.st_base.specs.declared.registers.Pick.{Pick}
 use Rattle.st_base.specs.declared.registers.Pick.TheVariants.{Saved, Arguments}
 use Rattle.st_base.specs.Registers.{picked, picked_at, is_picked, write_register}
 use Rattle.st_model.specs.Effect.{File}
-use Rattle.st_plain.specs.Frames.{IsHeldAs, HasFile, IsFrameless, is_kept, HoldsKept}
+use Rattle.st_step.specs.Frames.{IsFrameless, is_kept, HoldsKept}
+use Rattle.st_plain.specs.Frames.{IsHeldAs, HasFile}
 
 -- ---- what is picked
 

@@ -22,7 +22,8 @@ use Rattle.st_model.specs.Memory.{Data}
 use Rattle.st_step.specs.declared.state.State.{State as MachineState}
 use Rattle.st_step.specs.Moves.{register, written, at_place, from_pc, move_of}
 use Rattle.st_step.specs.Runs.{Situation, return_word, caller_word, moved}
-use Rattle.st_plain.specs.Frames.{value_in, is_kept, HasFile, HasSlots, with_saved_values, ComesBack, IsCaller, HasParent, parents_below, Below}
+use Rattle.st_step.specs.Frames.{value_in, is_kept, with_saved_values}
+use Rattle.st_plain.specs.Frames.{HasFile, HasSlots, ComesBack, IsCaller, HasParent, parents_below, Below}
 use Rattle.st_plain.specs.Standing.{stack_start, IsMachine, HasFrames, Stands}
 use Rattle.st_plain.proofs.Addresses.{first_address}
 use Rattle.st_plain.proofs.FrameWords.{below_same}

@@ -1,5 +1,5 @@
 -- A prologue makes its activation's frame (prologue_goes), and stops where the stack has no room for it (prologue_stops).
-use Rattle.std.proofs.Common.{◌≡◌, ◌≢◌, ℕ, zero, suc, ◌+◌, ◌-◌, ◌*◌, ◌^◌, ◌<◌, ◌≤◌, ◌%◌, Bool, true, false, List, [], ◌∷◌, ◌++◌, length, Option, Some, None, refl, ap, sym, ◌∙◌, subst, arith, replicate, pos, ◌-ℤ◌, length-append}
+use Rattle.std.proofs.Common.{◌≡◌, ◌≢◌, ℕ, zero, suc, ◌+◌, ◌-◌, ◌*◌, ◌^◌, ◌<◌, ◌≤◌, ◌%◌, Bool, true, false, List, length, Option, Some, None, refl, ap, sym, ◌∙◌, subst, arith, replicate}
 use Rattle.std.specs.Prelude.{slice_index_or, if◌then◌else◌}
 use Rattle.std.proofs.lemmas.List.{length-replicate}
 use Rattle.std.proofs.lemmas.Bool.{ltb-true, ltb-false, lt-ltb}
@@ -22,7 +22,7 @@ use Rattle.st_model.specs.declared.ordinary.Turn.{Turn}
 use Rattle.st_model.specs.Accepted.{IsAccepted, IsPrologue}
 use Rattle.st_model.specs.Bounded.{overflows, frames_held}
 use Rattle.st_model.specs.Effect.{File, advanced}
-use Rattle.st_model.specs.Layout.{HasSize, item_place, item_size, saved_of, stores, addi, sd, below, immediate_ins}
+use Rattle.st_model.specs.Layout.{HasSize, item_place, item_size, saved_of, below, immediate_ins}
 use Rattle.st_model.specs.Memory.{Data}
 use Rattle.st_model.specs.Ordinary.{step, item_at}
 use Rattle.st_step.specs.declared.state.State.{State as MachineState}
@@ -34,14 +34,15 @@ use Rattle.st_step.proofs.SavedList.{saved_fit}
 use Rattle.st_step.proofs.Straight.{plain_code}
 use Rattle.st_step.proofs.Writes.{length-written}
 use Rattle.st_plain.specs.Code.{code_at}
-use Rattle.st_plain.specs.Frames.{value_in, HasSlots, with_saved_values, Below}
+use Rattle.st_step.specs.Frames.{value_in, with_saved_values}
+use Rattle.st_plain.specs.Frames.{HasSlots, Below}
 use Rattle.st_plain.specs.Standing.{stack_start, on_stack, HasFrames, Stands}
 use Rattle.st_plain.proofs.Addresses.{address_bounds, next_address}
 use Rattle.st_plain.proofs.FrameSums.{below_sum, below_multiple, stack_base, holds_frame}
 use Rattle.st_plain.proofs.FrameWords.{frame_found, caller_found, return_found, frame_above, frame_words, below_same}
 use Rattle.st_plain.proofs.KeptFiles.{file_over, not_kept}
 use Rattle.st_plain.proofs.SavedRegisters.{value-written_other, value-written_same, written_whole, saved_few}
-use Rattle.st_plain.proofs.Straightly.{stores_straight, length-stores, straight_before, leads, item_leads}
+use Rattle.st_plain.proofs.Straightly.{leads, item_leads}
 use Rattle.st_plain.proofs.Turning.{TurnGoes}
 use Rattle.st_plain.proofs.Turns.{item_of, formed_of, step_is, item_words, framed, whole_of, machine_at}
 
@@ -113,14 +114,8 @@ prologue_goes p d stack names t s item accepted size few multiple stands there k
     let made = written lowered registers.S0 b in
     let end = m.pc + 4 * (4 + length saved) in
     let u : Situation = record { state = at_place end made; word = with_frame m b saved t.word } in
-    let ran_is = prologue_law d (code_at p) (on_stack stack) function t (item_place Unchanged function i) formed.frame code base (holds_frame stack bytes b to) (record { below = low }) in
-    let longer = length-append (stores registers.Sp (pos bytes) 0 saved) (addi registers.S0 registers.Sp (pos bytes) ∷ []) in
-    let stores_long = length-stores registers.Sp (pos bytes) 0 saved in
-    let way = item_leads p d stack s.top.function function i item has (addi registers.Sp registers.Sp (below bytes)) (sd registers.Ra (pos bytes -ℤ pos 8) registers.Sp)
-    (sd registers.S0 (pos bytes -ℤ pos 16) registers.Sp ∷ stores registers.Sp (pos bytes) 0 saved ++ addi registers.S0 registers.Sp (pos bytes) ∷ [])
-    (4 + length saved) (item_place Unchanged function i) t u
-    (refl, (refl, straight_before (sd registers.S0 (pos bytes -ℤ pos 16) registers.Sp) (stores registers.Sp (pos bytes) 0 saved ++ addi registers.S0 registers.Sp (pos bytes) ∷ []) refl (stores_straight registers.Sp (pos bytes) 0 saved (addi registers.S0 registers.Sp (pos bytes) ∷ []) tt)))
-    code pc (omega arith) (omega arith) low ran_is in
+    let runs = prologue_law d (code_at p) (on_stack stack) function t (item_place Unchanged function i) formed.frame code base (holds_frame stack bytes b to) (record { below = low }) in
+    let way = item_leads p d stack s.top.function function i item has (4 + length saved) (4 + length saved) t u pc (omega arith) runs in
     let count = machine.has_registers.count in
     let sp : value_in made 2 ≡ b - bytes = value-written_other lowered registers.S0 b 2 (λ e. absurd (omega (arith, e))) ∙ value-written_same m registers.Sp (b - bytes) count refl in
     let fp : value_in made 8 ≡ b = value-written_same lowered registers.S0 b (length-written m registers.Sp (b - bytes) ∙ count) refl in

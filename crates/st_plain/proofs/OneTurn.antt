@@ -126,23 +126,23 @@ abbrev pub TurnsAs : Program → Image → Data → Limits → ℕ → PlainRun 
 TurnsAs p image d limits drawn r machine board s left stepped.Ran =
     ((less : ℕ) × (less < left) × (less < 42) × IsUnderWay p image d limits drawn (moved_run r machine board) s less) ⊎ IsPast p image d limits drawn (moved_run r machine board) s
 TurnsAs p image d limits drawn r machine board s left (stepped.Trap kind) =
-    (line : Line) × (slice_get image.lines (word_index r.machine.state.pc) ≡ Some line) × EndsBy p d limits drawn r.threads.notes.items.items r.threads.out.items.items s (endings.Trap kind line)
+    (line : Line) × (slice_get image.lines (word_index r.machine.pc) ≡ Some line) × EndsBy p d limits drawn r.threads.notes.items.items r.threads.out.items.items s (endings.Trap kind line)
 TurnsAs p image d limits drawn r machine board s left (stepped.StackFull frame) = EndsBy p d limits drawn r.threads.notes.items.items r.threads.out.items.items s (endings.Limit (Stack 0 frame))
 TurnsAs p image d limits drawn r machine board s left (stepped.Entry entry) = ⊥
 
-module _ (p : Program) (image : Image) (d : Data) (limits : Limits) (drawn : ℕ) (r : PlainRun) (machine : Machine) (board : PlainBoard) (s : State) (left : ℕ) (ins : Ins) (end : StepEnd) (tables : HasTables p image limits r) (defined : IsDefinedFrom p d s) (there : code_at p r.machine.state.pc ≡ Some ins) (moves : MovesOf r.board r.machine.state (move_of d r.machine.state ins) end machine.state board) where
+module _ (p : Program) (image : Image) (d : Data) (limits : Limits) (drawn : ℕ) (r : PlainRun) (machine : Machine) (board : PlainBoard) (s : State) (left : ℕ) (ins : Ins) (end : StepEnd) (tables : HasTables p image limits r) (defined : IsDefinedFrom p d s) (there : code_at p r.machine.pc ≡ Some ins) (moves : MovesOf r.board r.machine (move_of d r.machine ins) end machine board) where
   still : HasTables p image limits (moved_run r machine board)
-  still = tables_stay p image limits r machine board tables (keeps_long r.board board r.machine.state machine.state (move_of d r.machine.state ins) end moves)
+  still = tables_stay p image limits r machine board tables (keeps_long r.board board r.machine machine (move_of d r.machine ins) end moves)
 
   -- where it leads on
-  led : (u : Situation) → Makes p d limits.stack (situation r.machine.state r.board.words.stack) u → (end ≡ stepped.Ran) × (situation machine.state board.words.stack ≡ u)
-  led u makes = executes r.board board r.machine.state machine.state (move_of d r.machine.state ins) end u limits.stack tables.long (made_by p d limits.stack (situation r.machine.state r.board.words.stack) u ins makes there) moves
+  led : (u : Situation) → Makes p d limits.stack (situation r.machine r.board.words.stack) u → (end ≡ stepped.Ran) × (situation machine board.words.stack ≡ u)
+  led u makes = executes r.board board r.machine machine (move_of d r.machine ins) end u limits.stack tables.long (made_by p d limits.stack (situation r.machine r.board.words.stack) u ins makes there) moves
 
   ran : TurnsAs p image d limits drawn r machine board s left stepped.Ran → end ≡ stepped.Ran → TurnsAs p image d limits drawn r machine board s left end
   ran turns is = subst (TurnsAs p image d limits drawn r machine board s left) (sym is) turns
 
   -- on the way to an entry
-  calls_on : (names : List Held) (m : ℕ) (u t : Situation) → m ≤ 20 → m + 21 < left → Makes p d limits.stack (situation r.machine.state r.board.words.stack) u → OnWay p d limits.stack m u t → AtCall p limits.stack names t s ⊎ AtEnd p limits.stack names t s
+  calls_on : (names : List Held) (m : ℕ) (u t : Situation) → m ≤ 20 → m + 21 < left → Makes p d limits.stack (situation r.machine r.board.words.stack) u → OnWay p d limits.stack m u t → AtCall p limits.stack names t s ⊎ AtEnd p limits.stack names t s
       → IsKept p limits names r.threads.cells.items.items r.threads.notes.items.items r.threads.out.items.items s → length r.threads.cells.items.items ≡ drawn → TurnsAs p image d limits drawn r machine board s left end
   calls_on names m u t small few makes way at kept drawn_yet =
       let on = led u makes in
@@ -158,7 +158,7 @@ module _ (p : Program) (image : Image) (d : Data) (limits : Limits) (drawn : ℕ
       )) on.0
 
   -- on the way to the next item, of which so many instructions are left
-  passes_on : (names : List Held) (m : ℕ) (u t : Situation) (s' : State) → m ≤ 20 → m < left → limit_met p limits drawn s ≡ None → step p d s ≡ Goes s' → Makes p d limits.stack (situation r.machine.state r.board.words.stack) u → OnWay p d limits.stack m u t → Stands p limits.stack names t s'
+  passes_on : (names : List Held) (m : ℕ) (u t : Situation) (s' : State) → m ≤ 20 → m < left → limit_met p limits drawn s ≡ None → step p d s ≡ Goes s' → Makes p d limits.stack (situation r.machine r.board.words.stack) u → OnWay p d limits.stack m u t → Stands p limits.stack names t s'
       → IsKept p limits names r.threads.cells.items.items r.threads.notes.items.items r.threads.out.items.items s' → length r.threads.cells.items.items ≡ drawn + drawn_by (item_at p s.top) → TurnsAs p image d limits drawn r machine board s left end
   passes_on names zero u t s' small few passes steps makes way stands kept drew =
       let on = led u makes in
@@ -181,7 +181,7 @@ module _ (p : Program) (image : Image) (d : Data) (limits : Limits) (drawn : ℕ
       ran (inl (suc m, few, omega arith, record { tables = still; defined = defined; amid = inr (inr (record { goes = goes; some = omega arith; few = omega arith })) })) on.0
 
   -- a stop ends the run
-  stopped_by : (stop : StepEnd) → StopsAs p image d limits drawn (situation r.machine.state r.board.words.stack) s stop → (names : List Held) → IsKept p limits names r.threads.cells.items.items r.threads.notes.items.items r.threads.out.items.items s → TurnsAs p image d limits drawn r machine board s left stop
+  stopped_by : (stop : StepEnd) → StopsAs p image d limits drawn (situation r.machine r.board.words.stack) s stop → (names : List Held) → IsKept p limits names r.threads.cells.items.items r.threads.notes.items.items r.threads.out.items.items s → TurnsAs p image d limits drawn r machine board s left stop
   stopped_by stepped.Ran as_it names kept = absurd as_it
   stopped_by (stepped.Entry entry) as_it names kept = absurd as_it
   stopped_by (stepped.StackFull frame) as_it names kept = inl (past_stack frame, as_it, (Stack 0 frame, refl, refl))
@@ -204,28 +204,28 @@ module _ (p : Program) (image : Image) (d : Data) (limits : Limits) (drawn : ℕ
   starts_on begins =
       let at = begins.2 in
       let kept = at.kept in
-      let first = item_begins p image d limits drawn at.names (situation r.machine.state r.board.words.stack) s tables.is_plain limits.stack_most limits.stack_multiple at.stands (first_defined p d s defined) in
+      let first = item_begins p image d limits drawn at.names (situation r.machine r.board.words.stack) s tables.is_plain limits.stack_most limits.stack_multiple at.stands (first_defined p d s defined) in
       starts_by at.names kept begins.0 begins.1 first
     where
-      starts_by : (names : List Held) → IsKept p limits names r.threads.cells.items.items r.threads.notes.items.items r.threads.out.items.items s → 42 ≤ left → length r.threads.cells.items.items ≡ drawn → Begins p image d limits drawn names (situation r.machine.state r.board.words.stack) s → TurnsAs p image d limits drawn r machine board s left end
+      starts_by : (names : List Held) → IsKept p limits names r.threads.cells.items.items r.threads.notes.items.items r.threads.out.items.items s → 42 ≤ left → length r.threads.cells.items.items ≡ drawn → Begins p image d limits drawn names (situation r.machine r.board.words.stack) s → TurnsAs p image d limits drawn r machine board s left end
       starts_by names kept long drawn_yet (inl (v, leads, inl at)) = calls_on names leads.2.0 leads.0 v leads.2.1 (let few = leads.2.1 in omega arith) leads.1 leads.2.2 at kept drawn_yet
       starts_by names kept long drawn_yet (inl (v, leads, inr alone)) =
           passes_on names leads.2.0 leads.0 v alone.s' leads.2.1 (let few = leads.2.1 in omega arith) alone.passes alone.steps leads.1 leads.2.2 alone.stands (kept_alone p d limits r names v drawn s kept alone) (let none = alone.draws_none in omega (arith, none, drawn_yet))
       starts_by names kept long drawn_yet (inr stopping) =
           let same : stopping.ins ≡ ins = (let e = stopping.there in cc) in
-          let halts = subst (λ (i : Ins). move_of d r.machine.state i ≡ Stops stopping.end) same stopping.halts in
-          let ended = stops r.board board r.machine.state machine.state (move_of d r.machine.state ins) end stopping.end halts moves in
+          let halts = subst (λ (i : Ins). move_of d r.machine i ≡ Stops stopping.end) same stopping.halts in
+          let ended = stops r.board board r.machine machine (move_of d r.machine ins) end stopping.end halts moves in
           subst (TurnsAs p image d limits drawn r machine board s left) (sym ended.0) (stopped_by stopping.end stopping.alike names kept)
 
-  calls_further : 0x10000 ≤ r.machine.state.pc → (calls : Calls p d limits drawn r s left) → (n : ℕ) → calls.n ≡ n → OnWay p d limits.stack n (situation r.machine.state r.board.words.stack) calls.t → TurnsAs p image d limits drawn r machine board s left end
+  calls_further : 0x10000 ≤ r.machine.pc → (calls : Calls p d limits drawn r s left) → (n : ℕ) → calls.n ≡ n → OnWay p d limits.stack n (situation r.machine r.board.words.stack) calls.t → TurnsAs p image d limits drawn r machine board s left end
   calls_further high calls zero is way =
-      absurd (let low = entry_low p limits.stack calls.names (situation r.machine.state r.board.words.stack) s tables.is_plain.accepted (subst (λ (x : Situation). AtCall p limits.stack calls.names x s ⊎ AtEnd p limits.stack calls.names x s) (sym way) calls.at) in omega (arith, low, high))
+      absurd (let low = entry_low p limits.stack calls.names (situation r.machine r.board.words.stack) s tables.is_plain.accepted (subst (λ (x : Situation). AtCall p limits.stack calls.names x s ⊎ AtEnd p limits.stack calls.names x s) (sym way) calls.at) in omega (arith, low, high))
   calls_further high calls (suc m) is way =
       let small = calls.small in
       let few = calls.few in
       calls_on calls.names m way.1.0 calls.t (omega arith) (omega arith) way.1.1 way.1.2 calls.at calls.kept calls.drawn_yet
 
-  passes_further : (passing : Passes p d limits drawn r s left) → (n : ℕ) → passing.goes.comes.n ≡ n → OnWay p d limits.stack n (situation r.machine.state r.board.words.stack) passing.goes.comes.t → TurnsAs p image d limits drawn r machine board s left end
+  passes_further : (passing : Passes p d limits drawn r s left) → (n : ℕ) → passing.goes.comes.n ≡ n → OnWay p d limits.stack n (situation r.machine r.board.words.stack) passing.goes.comes.t → TurnsAs p image d limits drawn r machine board s left end
   passes_further passing zero is way = absurd (let some = passing.some in omega (arith, some, is))
   passes_further passing (suc m) is way =
       let goes = passing.goes in
@@ -233,16 +233,16 @@ module _ (p : Program) (image : Image) (d : Data) (limits : Limits) (drawn : ℕ
       let few = passing.few in
       passes_on goes.comes.names m way.1.0 goes.comes.t goes.s' (omega (arith, small, is)) (omega (arith, few, is)) goes.passes goes.steps way.1.1 way.1.2 goes.comes.stands goes.comes.kept goes.drew
 
-  amid_on : 0x10000 ≤ r.machine.state.pc → IsAmid p d limits drawn r s left → TurnsAs p image d limits drawn r machine board s left end
+  amid_on : 0x10000 ≤ r.machine.pc → IsAmid p d limits drawn r s left → TurnsAs p image d limits drawn r machine board s left end
   amid_on high (inl begins) = starts_on begins
   amid_on high (inr (inl calls)) = calls_further high calls calls.n refl calls.way
   amid_on high (inr (inr passing)) = passes_further passing passing.goes.comes.n refl passing.goes.comes.way
 
 -- one instruction of a run that is under way
-pub instruction_turns : (p : Program) (image : Image) (d : Data) (limits : Limits) (drawn : ℕ) (r : PlainRun) (machine : Machine) (board : PlainBoard) (s : State) (left : ℕ) (ins : Ins) (end : StepEnd) → IsUnderWay p image d limits drawn r s left → 0x10000 ≤ r.machine.state.pc → slice_get (instructions_of r.code.instructions.items) (word_index r.machine.state.pc) ≡ Some ins
-    → MovesOf r.board r.machine.state (move_of d r.machine.state ins) end machine.state board → TurnsAs p image d limits drawn r machine board s left end
+pub instruction_turns : (p : Program) (image : Image) (d : Data) (limits : Limits) (drawn : ℕ) (r : PlainRun) (machine : Machine) (board : PlainBoard) (s : State) (left : ℕ) (ins : Ins) (end : StepEnd) → IsUnderWay p image d limits drawn r s left → 0x10000 ≤ r.machine.pc → slice_get (instructions_of r.code.instructions.items) (word_index r.machine.pc) ≡ Some ins
+    → MovesOf r.board r.machine (move_of d r.machine ins) end machine board → TurnsAs p image d limits drawn r machine board s left end
 instruction_turns p image d limits drawn r machine board s left ins end under high there moves =
-    amid_on p image d limits drawn r machine board s left ins end under.tables under.defined (code_there p r.machine.state.pc ins (instructions_of r.code.instructions.items) under.tables.instructions high there) moves high under.amid
+    amid_on p image d limits drawn r machine board s left ins end under.tables under.defined (code_there p r.machine.pc ins (instructions_of r.code.instructions.items) under.tables.instructions high there) moves high under.amid
 
 -- ---- at an entry
 
@@ -259,20 +259,20 @@ no_code p d stack t u low makes =
     let e = makes.there in
     cc
 
-served_at : (p : Program) (d : Data) (limits : Limits) (drawn : ℕ) (r : PlainRun) (s : State) (left : ℕ) → r.machine.state.pc < 0x10000 → (calls : Calls p d limits drawn r s left) → (n : ℕ) → calls.n ≡ n → OnWay p d limits.stack n (situation r.machine.state r.board.words.stack) calls.t → IsServedThere p limits drawn r s left
+served_at : (p : Program) (d : Data) (limits : Limits) (drawn : ℕ) (r : PlainRun) (s : State) (left : ℕ) → r.machine.pc < 0x10000 → (calls : Calls p d limits drawn r s left) → (n : ℕ) → calls.n ≡ n → OnWay p d limits.stack n (situation r.machine r.board.words.stack) calls.t → IsServedThere p limits drawn r s left
 served_at p d limits drawn r s left low calls zero is way = record {
   names = calls.names;
   entry = record { kept = calls.kept; at = subst (λ (x : Situation). AtCall p limits.stack calls.names x s ⊎ AtEnd p limits.stack calls.names x s) (sym way) calls.at };
   drawn_yet = calls.drawn_yet;
   many = let few = calls.few in omega arith;
 }
-served_at p d limits drawn r s left low calls (suc m) is way = absurd (no_code p d limits.stack (situation r.machine.state r.board.words.stack) way.1.0 low way.1.1)
+served_at p d limits drawn r s left low calls (suc m) is way = absurd (no_code p d limits.stack (situation r.machine r.board.words.stack) way.1.0 low way.1.1)
 
-passing_no : (p : Program) (d : Data) (limits : Limits) (drawn : ℕ) (r : PlainRun) (s : State) (left : ℕ) → r.machine.state.pc < 0x10000 → (passing : Passes p d limits drawn r s left) → (n : ℕ) → passing.goes.comes.n ≡ n → OnWay p d limits.stack n (situation r.machine.state r.board.words.stack) passing.goes.comes.t → ⊥
+passing_no : (p : Program) (d : Data) (limits : Limits) (drawn : ℕ) (r : PlainRun) (s : State) (left : ℕ) → r.machine.pc < 0x10000 → (passing : Passes p d limits drawn r s left) → (n : ℕ) → passing.goes.comes.n ≡ n → OnWay p d limits.stack n (situation r.machine r.board.words.stack) passing.goes.comes.t → ⊥
 passing_no p d limits drawn r s left low passing zero is way = let some = passing.some in omega (arith, some, is)
-passing_no p d limits drawn r s left low passing (suc m) is way = no_code p d limits.stack (situation r.machine.state r.board.words.stack) way.1.0 low way.1.1
+passing_no p d limits drawn r s left low passing (suc m) is way = no_code p d limits.stack (situation r.machine r.board.words.stack) way.1.0 low way.1.1
 
-served_amid : (p : Program) (d : Data) (limits : Limits) (drawn : ℕ) (r : PlainRun) (s : State) (left : ℕ) → HasSize p → r.machine.state.pc < 0x10000 → IsAmid p d limits drawn r s left → IsServedThere p limits drawn r s left
+served_amid : (p : Program) (d : Data) (limits : Limits) (drawn : ℕ) (r : PlainRun) (s : State) (left : ℕ) → HasSize p → r.machine.pc < 0x10000 → IsAmid p d limits drawn r s left → IsServedThere p limits drawn r s left
 served_amid p d limits drawn r s left size low (inl begins) =
     let stands = begins.2.stands in
     let bound = (place_bounds p s.top.function stands.stands.function s.top.next size stands.stands.here).0 in
@@ -281,11 +281,11 @@ served_amid p d limits drawn r s left size low (inl begins) =
 served_amid p d limits drawn r s left size low (inr (inl calls)) = served_at p d limits drawn r s left low calls calls.n refl calls.way
 served_amid p d limits drawn r s left size low (inr (inr passing)) = absurd (passing_no p d limits drawn r s left low passing passing.goes.comes.n refl passing.goes.comes.way)
 
-pub is_served_there : (p : Program) (image : Image) (d : Data) (limits : Limits) (drawn : ℕ) (r : PlainRun) (s : State) (left : ℕ) → r.machine.state.pc < 0x10000 → IsUnderWay p image d limits drawn r s left → IsServedThere p limits drawn r s left
+pub is_served_there : (p : Program) (image : Image) (d : Data) (limits : Limits) (drawn : ℕ) (r : PlainRun) (s : State) (left : ℕ) → r.machine.pc < 0x10000 → IsUnderWay p image d limits drawn r s left → IsServedThere p limits drawn r s left
 is_served_there p image d limits drawn r s left low under = served_amid p d limits drawn r s left under.tables.is_plain.size low under.amid
 
 -- what the entry came to
-served_on : (p : Program) (image : Image) (d : Data) (limits : Limits) (drawn : ℕ) (r : PlainRun) (s : State) (left : ℕ) → 21 ≤ left → HasTables p image limits r → IsDefinedFrom p d s → (goes : GoesOn p d limits drawn r s) → (n : ℕ) → goes.comes.n ≡ n → OnWay p d limits.stack n (situation r.machine.state r.board.words.stack) goes.comes.t
+served_on : (p : Program) (image : Image) (d : Data) (limits : Limits) (drawn : ℕ) (r : PlainRun) (s : State) (left : ℕ) → 21 ≤ left → HasTables p image limits r → IsDefinedFrom p d s → (goes : GoesOn p d limits drawn r s) → (n : ℕ) → goes.comes.n ≡ n → OnWay p d limits.stack n (situation r.machine r.board.words.stack) goes.comes.t
     → ((less : ℕ) × (less < left) × (less < 42) × IsUnderWay p image d limits drawn r s less) ⊎ IsPast p image d limits drawn r s
 served_on p image d limits drawn r s left many tables defined goes zero is way = inr (record {
   passes = goes.passes;
@@ -320,29 +320,29 @@ coded_way : (p : Program) (d : Data) (stack n : ℕ) (t u : Situation) → 1 ≤
 coded_way p d stack zero t u some way = absurd (omega (arith, some))
 coded_way p d stack (suc n) t u some way = (way.1.1.ins, way.1.1.there)
 
-coded_call : (p : Program) (image : Image) (d : Data) (limits : Limits) (drawn : ℕ) (r : PlainRun) (s : State) (left : ℕ) → IsAccepted p → 0x10000 ≤ r.machine.state.pc → (calls : Calls p d limits drawn r s left) → (n : ℕ) → calls.n ≡ n → OnWay p d limits.stack n (situation r.machine.state r.board.words.stack) calls.t → (ins : Ins) × (code_at p r.machine.state.pc ≡ Some ins)
+coded_call : (p : Program) (image : Image) (d : Data) (limits : Limits) (drawn : ℕ) (r : PlainRun) (s : State) (left : ℕ) → IsAccepted p → 0x10000 ≤ r.machine.pc → (calls : Calls p d limits drawn r s left) → (n : ℕ) → calls.n ≡ n → OnWay p d limits.stack n (situation r.machine r.board.words.stack) calls.t → (ins : Ins) × (code_at p r.machine.pc ≡ Some ins)
 coded_call p image d limits drawn r s left accepted high calls zero is way =
-    absurd (let low = entry_low p limits.stack calls.names (situation r.machine.state r.board.words.stack) s accepted (subst (λ (x : Situation). AtCall p limits.stack calls.names x s ⊎ AtEnd p limits.stack calls.names x s) (sym way) calls.at) in omega (arith, low, high))
-coded_call p image d limits drawn r s left accepted high calls (suc m) is way = coded_way p d limits.stack (suc m) (situation r.machine.state r.board.words.stack) calls.t (omega arith) way
+    absurd (let low = entry_low p limits.stack calls.names (situation r.machine r.board.words.stack) s accepted (subst (λ (x : Situation). AtCall p limits.stack calls.names x s ⊎ AtEnd p limits.stack calls.names x s) (sym way) calls.at) in omega (arith, low, high))
+coded_call p image d limits drawn r s left accepted high calls (suc m) is way = coded_way p d limits.stack (suc m) (situation r.machine r.board.words.stack) calls.t (omega arith) way
 
-coded_amid : (p : Program) (image : Image) (d : Data) (limits : Limits) (drawn : ℕ) (r : PlainRun) (s : State) (left : ℕ) → HasTables p image limits r → IsDefinedFrom p d s → 0x10000 ≤ r.machine.state.pc → IsAmid p d limits drawn r s left → (ins : Ins) × (code_at p r.machine.state.pc ≡ Some ins)
+coded_amid : (p : Program) (image : Image) (d : Data) (limits : Limits) (drawn : ℕ) (r : PlainRun) (s : State) (left : ℕ) → HasTables p image limits r → IsDefinedFrom p d s → 0x10000 ≤ r.machine.pc → IsAmid p d limits drawn r s left → (ins : Ins) × (code_at p r.machine.pc ≡ Some ins)
 coded_amid p image d limits drawn r s left tables defined high (inl begins) =
-    coded_begin p image d limits drawn begins.2.names (situation r.machine.state r.board.words.stack) s
-    (item_begins p image d limits drawn begins.2.names (situation r.machine.state r.board.words.stack) s tables.is_plain limits.stack_most limits.stack_multiple begins.2.stands (first_defined p d s defined))
+    coded_begin p image d limits drawn begins.2.names (situation r.machine r.board.words.stack) s
+    (item_begins p image d limits drawn begins.2.names (situation r.machine r.board.words.stack) s tables.is_plain limits.stack_most limits.stack_multiple begins.2.stands (first_defined p d s defined))
 coded_amid p image d limits drawn r s left tables defined high (inr (inl calls)) = coded_call p image d limits drawn r s left tables.is_plain.accepted high calls calls.n refl calls.way
-coded_amid p image d limits drawn r s left tables defined high (inr (inr passing)) = coded_way p d limits.stack passing.goes.comes.n (situation r.machine.state r.board.words.stack) passing.goes.comes.t passing.some passing.goes.comes.way
+coded_amid p image d limits drawn r s left tables defined high (inr (inr passing)) = coded_way p d limits.stack passing.goes.comes.n (situation r.machine r.board.words.stack) passing.goes.comes.t passing.some passing.goes.comes.way
 
 read_code : (p : Program) (pc : ℕ) (ins : Ins) → 0x10000 ≤ pc → code_at p pc ≡ Some ins → slice_get (code_of Unchanged p) (word_index pc) ≡ Some ins
 read_code p pc ins high there = ap (λ (b : Bool). if b then None else slice_get (code_of Unchanged p) (word_index pc)) (sym (le-ltb pc code_start high)) ∙ there
 
 -- an instruction stands at the pc
-pub is_coded : (p : Program) (image : Image) (d : Data) (limits : Limits) (drawn : ℕ) (r : PlainRun) (s : State) (left : ℕ) → 0x10000 ≤ r.machine.state.pc → IsUnderWay p image d limits drawn r s left → (ins : Ins) × (slice_get (instructions_of r.code.instructions.items) (word_index r.machine.state.pc) ≡ Some ins)
+pub is_coded : (p : Program) (image : Image) (d : Data) (limits : Limits) (drawn : ℕ) (r : PlainRun) (s : State) (left : ℕ) → 0x10000 ≤ r.machine.pc → IsUnderWay p image d limits drawn r s left → (ins : Ins) × (slice_get (instructions_of r.code.instructions.items) (word_index r.machine.pc) ≡ Some ins)
 is_coded p image d limits drawn r s left high under =
     let found = coded_amid p image d limits drawn r s left under.tables under.defined high under.amid in
-    (found.0, ap (λ (xs : List Ins). slice_get xs (word_index r.machine.state.pc)) under.tables.instructions ∙ read_code p r.machine.state.pc found.0 high found.1)
+    (found.0, ap (λ (xs : List Ins). slice_get xs (word_index r.machine.pc)) under.tables.instructions ∙ read_code p r.machine.pc found.0 high found.1)
 
-pub code_inside : (image : Image) (d : Data) (r : PlainRun) → 0x10000 ≤ r.machine.state.pc → ∥ ((p : Program) × (limits : Limits) × (drawn : ℕ) × (s : State) × (left : ℕ) × IsUnderWay p image d limits drawn r s left) ∥₁ → word_index r.machine.state.pc < length (instructions_of r.code.instructions.items)
-code_inside image d r high amid = ∥∥₁_elim amid le_prop (λ x. let there = is_coded x.0 image d x.1 x.2 r x.3 x.4 high x.5 in slice_get_within (instructions_of r.code.instructions.items) (word_index r.machine.state.pc) there.0 there.1)
+pub code_inside : (image : Image) (d : Data) (r : PlainRun) → 0x10000 ≤ r.machine.pc → ∥ ((p : Program) × (limits : Limits) × (drawn : ℕ) × (s : State) × (left : ℕ) × IsUnderWay p image d limits drawn r s left) ∥₁ → word_index r.machine.pc < length (instructions_of r.code.instructions.items)
+code_inside image d r high amid = ∥∥₁_elim amid le_prop (λ x. let there = is_coded x.0 image d x.1 x.2 r x.3 x.4 high x.5 in slice_get_within (instructions_of r.code.instructions.items) (word_index r.machine.pc) there.0 there.1)
 
 -- there are as many lines
 all-length : (fs : List ProgramFunction) → length (words_of_all Unchanged fs) ≡ functions_size Unchanged fs
@@ -356,7 +356,7 @@ lines-length : (p : Program) (image : Image) → IsPlainImage p image → length
 unfolding program_words
 lines-length p image pi = ap length pi.is_image.lines ∙ length-map (program_words Unchanged p) (λ w. w.line) ∙ all-length p.functions ∙ sym (code-length p)
 
-pub line_inside : (image : Image) (d : Data) (r : PlainRun) → 0x10000 ≤ r.machine.state.pc → ∥ ((p : Program) × (limits : Limits) × (drawn : ℕ) × (s : State) × (left : ℕ) × IsUnderWay p image d limits drawn r s left) ∥₁ → word_index r.machine.state.pc < length image.lines
+pub line_inside : (image : Image) (d : Data) (r : PlainRun) → 0x10000 ≤ r.machine.pc → ∥ ((p : Program) × (limits : Limits) × (drawn : ℕ) × (s : State) × (left : ℕ) × IsUnderWay p image d limits drawn r s left) ∥₁ → word_index r.machine.pc < length image.lines
 line_inside image d r high amid =
     ∥∥₁_elim amid le_prop (λ x.
     let inside = code_inside image d r high amid in
@@ -369,10 +369,10 @@ begins-length : (p : Program) (image : Image) → IsPlainImage p image → lengt
 unfolding program_words
 begins-length p image pi = ap length pi.is_image.begins ∙ length-map (program_words Unchanged p) (λ w. w.begins) ∙ all-length p.functions ∙ sym (code-length p)
 
-pub beginning_inside : (p : Program) (image : Image) (d : Data) (limits : Limits) (drawn : ℕ) (r : PlainRun) (s : State) (left : ℕ) → 0x10000 ≤ r.machine.state.pc → IsUnderWay p image d limits drawn r s left → word_index r.machine.state.pc < length image.begins
+pub beginning_inside : (p : Program) (image : Image) (d : Data) (limits : Limits) (drawn : ℕ) (r : PlainRun) (s : State) (left : ℕ) → 0x10000 ≤ r.machine.pc → IsUnderWay p image d limits drawn r s left → word_index r.machine.pc < length image.begins
 beginning_inside p image d limits drawn r s left high under =
     let there = is_coded p image d limits drawn r s left high under in
-    let inside = slice_get_within (instructions_of r.code.instructions.items) (word_index r.machine.state.pc) there.0 there.1 in
+    let inside = slice_get_within (instructions_of r.code.instructions.items) (word_index r.machine.pc) there.0 there.1 in
     let begins = begins-length p image under.tables.is_plain in
     let codes = ap length under.tables.instructions in
     omega (arith, inside, begins, codes)
@@ -394,8 +394,8 @@ coded_bounded p image pc ins pi high there =
     bounded_some fetched.word (Some ins) fetched.row
 
 -- the instruction at the pc
-pub code_bounded : (image : Image) (d : Data) (r : PlainRun) (ins : Ins) → 0x10000 ≤ r.machine.state.pc → ∥ ((p : Program) × (limits : Limits) × (drawn : ℕ) × (s : State) × (left : ℕ) × IsUnderWay p image d limits drawn r s left) ∥₁ → slice_get (instructions_of r.code.instructions.items) (word_index r.machine.state.pc) ≡ Some ins → IsBounded ins
-code_bounded image d r ins high amid there = ∥∥₁_elim amid (bounded_prop ins) (λ x. coded_bounded x.0 image r.machine.state.pc ins x.5.tables.is_plain high (code_there x.0 r.machine.state.pc ins (instructions_of r.code.instructions.items) x.5.tables.instructions high there))
+pub code_bounded : (image : Image) (d : Data) (r : PlainRun) (ins : Ins) → 0x10000 ≤ r.machine.pc → ∥ ((p : Program) × (limits : Limits) × (drawn : ℕ) × (s : State) × (left : ℕ) × IsUnderWay p image d limits drawn r s left) ∥₁ → slice_get (instructions_of r.code.instructions.items) (word_index r.machine.pc) ≡ Some ins → IsBounded ins
+code_bounded image d r ins high amid there = ∥∥₁_elim amid (bounded_prop ins) (λ x. coded_bounded x.0 image r.machine.pc ins x.5.tables.is_plain high (code_there x.0 r.machine.pc ins (instructions_of r.code.instructions.items) x.5.tables.instructions high there))
 
 -- what it speaks of
 made_within : (p : Program) (d : Data) (stack n : ℕ) (t u : Situation) (ins : Ins) → n ≡ stack / 8 → Makes p d stack t u → code_at p t.state.pc ≡ Some ins → SpeaksWithin n (move_of d t.state ins)
@@ -412,20 +412,20 @@ begin_within p image d limits drawn names t s count ins long (inr stopping) ther
     let same : stopping.ins ≡ ins = (let e = stopping.there in cc) in
     subst (SpeaksWithin count) (sym (subst (λ (i : Ins). move_of d t.state i ≡ Stops stopping.end) same stopping.halts)) tt
 
-call_within : (p : Program) (d : Data) (limits : Limits) (drawn : ℕ) (r : PlainRun) (s : State) (left count : ℕ) (ins : Ins) → IsAccepted p → count ≡ limits.stack / 8 → 0x10000 ≤ r.machine.state.pc → (calls : Calls p d limits drawn r s left) → (n : ℕ) → calls.n ≡ n → OnWay p d limits.stack n (situation r.machine.state r.board.words.stack) calls.t → code_at p r.machine.state.pc ≡ Some ins → SpeaksWithin count (move_of d r.machine.state ins)
+call_within : (p : Program) (d : Data) (limits : Limits) (drawn : ℕ) (r : PlainRun) (s : State) (left count : ℕ) (ins : Ins) → IsAccepted p → count ≡ limits.stack / 8 → 0x10000 ≤ r.machine.pc → (calls : Calls p d limits drawn r s left) → (n : ℕ) → calls.n ≡ n → OnWay p d limits.stack n (situation r.machine r.board.words.stack) calls.t → code_at p r.machine.pc ≡ Some ins → SpeaksWithin count (move_of d r.machine ins)
 call_within p d limits drawn r s left count ins accepted long high calls zero is way there =
-    absurd (let low = entry_low p limits.stack calls.names (situation r.machine.state r.board.words.stack) s accepted (subst (λ (x : Situation). AtCall p limits.stack calls.names x s ⊎ AtEnd p limits.stack calls.names x s) (sym way) calls.at) in omega (arith, low, high))
-call_within p d limits drawn r s left count ins accepted long high calls (suc m) is way there = way_within p d limits.stack count (suc m) (situation r.machine.state r.board.words.stack) calls.t ins long (omega arith) way there
+    absurd (let low = entry_low p limits.stack calls.names (situation r.machine r.board.words.stack) s accepted (subst (λ (x : Situation). AtCall p limits.stack calls.names x s ⊎ AtEnd p limits.stack calls.names x s) (sym way) calls.at) in omega (arith, low, high))
+call_within p d limits drawn r s left count ins accepted long high calls (suc m) is way there = way_within p d limits.stack count (suc m) (situation r.machine r.board.words.stack) calls.t ins long (omega arith) way there
 
-amid_within : (p : Program) (image : Image) (d : Data) (limits : Limits) (drawn : ℕ) (r : PlainRun) (s : State) (left : ℕ) (ins : Ins) → HasTables p image limits r → IsDefinedFrom p d s → 0x10000 ≤ r.machine.state.pc → IsAmid p d limits drawn r s left → code_at p r.machine.state.pc ≡ Some ins → SpeaksWithin (length r.board.words.stack) (move_of d r.machine.state ins)
+amid_within : (p : Program) (image : Image) (d : Data) (limits : Limits) (drawn : ℕ) (r : PlainRun) (s : State) (left : ℕ) (ins : Ins) → HasTables p image limits r → IsDefinedFrom p d s → 0x10000 ≤ r.machine.pc → IsAmid p d limits drawn r s left → code_at p r.machine.pc ≡ Some ins → SpeaksWithin (length r.board.words.stack) (move_of d r.machine ins)
 amid_within p image d limits drawn r s left ins tables defined high (inl begins) there =
-    begin_within p image d limits drawn begins.2.names (situation r.machine.state r.board.words.stack) s (length r.board.words.stack) ins tables.long
-    (item_begins p image d limits drawn begins.2.names (situation r.machine.state r.board.words.stack) s tables.is_plain limits.stack_most limits.stack_multiple begins.2.stands (first_defined p d s defined))
+    begin_within p image d limits drawn begins.2.names (situation r.machine r.board.words.stack) s (length r.board.words.stack) ins tables.long
+    (item_begins p image d limits drawn begins.2.names (situation r.machine r.board.words.stack) s tables.is_plain limits.stack_most limits.stack_multiple begins.2.stands (first_defined p d s defined))
     there
 amid_within p image d limits drawn r s left ins tables defined high (inr (inl calls)) there = call_within p d limits drawn r s left (length r.board.words.stack) ins tables.is_plain.accepted tables.long high calls calls.n refl calls.way there
-amid_within p image d limits drawn r s left ins tables defined high (inr (inr passing)) there = way_within p d limits.stack (length r.board.words.stack) passing.goes.comes.n (situation r.machine.state r.board.words.stack) passing.goes.comes.t ins tables.long passing.some passing.goes.comes.way there
+amid_within p image d limits drawn r s left ins tables defined high (inr (inr passing)) there = way_within p d limits.stack (length r.board.words.stack) passing.goes.comes.n (situation r.machine r.board.words.stack) passing.goes.comes.t ins tables.long passing.some passing.goes.comes.way there
 
-pub code_within : (image : Image) (d : Data) (r : PlainRun) (ins : Ins) → 0x10000 ≤ r.machine.state.pc → ∥ ((p : Program) × (limits : Limits) × (drawn : ℕ) × (s : State) × (left : ℕ) × IsUnderWay p image d limits drawn r s left) ∥₁ → slice_get (instructions_of r.code.instructions.items) (word_index r.machine.state.pc) ≡ Some ins → SpeaksWithin (length r.board.words.stack) (move_of d r.machine.state ins)
+pub code_within : (image : Image) (d : Data) (r : PlainRun) (ins : Ins) → 0x10000 ≤ r.machine.pc → ∥ ((p : Program) × (limits : Limits) × (drawn : ℕ) × (s : State) × (left : ℕ) × IsUnderWay p image d limits drawn r s left) ∥₁ → slice_get (instructions_of r.code.instructions.items) (word_index r.machine.pc) ≡ Some ins → SpeaksWithin (length r.board.words.stack) (move_of d r.machine ins)
 code_within image d r ins high amid there =
-    ∥∥₁_elim amid (speaks_prop (length r.board.words.stack) (move_of d r.machine.state ins)) (λ x.
-    amid_within x.0 image d x.1 x.2 r x.3 x.4 ins x.5.tables x.5.defined high x.5.amid (code_there x.0 r.machine.state.pc ins (instructions_of r.code.instructions.items) x.5.tables.instructions high there))
+    ∥∥₁_elim amid (speaks_prop (length r.board.words.stack) (move_of d r.machine ins)) (λ x.
+    amid_within x.0 image d x.1 x.2 r x.3 x.4 ins x.5.tables x.5.defined high x.5.amid (code_there x.0 r.machine.pc ins (instructions_of r.code.instructions.items) x.5.tables.instructions high there))

@@ -37,7 +37,8 @@ use Rattle.st_plain.specs.declared.cells.Note.{Note}
 use Rattle.st_plain.specs.declared.run.PlainRun.{PlainRun}
 use Rattle.st_plain.specs.Answer.{IsPlainImage}
 use Rattle.st_plain.specs.Code.{handles_of, instructions_of}
-use Rattle.st_plain.specs.Frames.{HasFile, IsHeldAs, end_entry, value_in}
+use Rattle.st_step.specs.Frames.{value_in}
+use Rattle.st_plain.specs.Frames.{HasFile, IsHeldAs, end_entry}
 use Rattle.st_plain.specs.Running.{HasBoard, IsDefinedFrom, IsKept, IsReady}
 use Rattle.st_plain.specs.Standing.{IsMachine, Stands, situation, stack_start}
 use Rattle.st_plain.specs.Threads.{NamesStand, NotesStand, HandlesStand}
@@ -176,7 +177,7 @@ kept_opened p limits cells notes out s rest are note none least handles = record
 -- ---- the run
 
 pub opened_ready : (p : Program) (image : Image) (d : Data) (limits sizes : Limits) (r : PlainRun) (s : State) → sizes.stack ≡ limits.stack → IsPlainImage p image → start p d ≡ Some s → IsDefinedFrom p d s → limits.stack ≤ 1048576 → 1 ≤ limits.cells → length d.input < 2 ^ 64
-    → r.machine.state ≡ opened (stack_start + limits.stack) (length d.input) image.main_at → r.board.words ≡ first_words sizes 1 → r.board.kept.views ≡ first_views sizes 1
+    → r.machine ≡ opened (stack_start + limits.stack) (length d.input) image.main_at → r.board.words ≡ first_words sizes 1 → r.board.kept.views ≡ first_views sizes 1
     → instructions_of r.code.instructions.items ≡ code_of Unchanged p → r.code.handles.items ≡ handles_of image.forks (replicate (length image.words) registers.Zero)
     → r.threads.cells.most ≡ limits.cells → r.threads.cells.items.items ≡ FutureCell None ∷ [] → r.threads.notes.items.items ≡ record { cell = 0; forks = 0; counters = 0; handle = registers.Zero } ∷ [] → r.threads.out.items.items ≡ []
     → IsReady p image d limits r s

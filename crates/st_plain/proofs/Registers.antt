@@ -18,7 +18,8 @@ use Rattle.st_model.specs.Layout.{saveable, saved_among, saved_of}
 use Rattle.st_step.specs.declared.state.State.{State as MachineState}
 use Rattle.st_step.specs.Moves.{is_stack, written}
 use Rattle.st_step.specs.Runs.{saved_word, HasRegisters}
-use Rattle.st_plain.specs.Frames.{IsHeldAs, value_in, HasFile, IsFrameless, is_kept, with_saved_values}
+use Rattle.st_step.specs.Frames.{value_in, IsFrameless, is_kept, with_saved_values}
+use Rattle.st_plain.specs.Frames.{IsHeldAs, HasFile}
 use Rattle.st_plain.proofs.SavedRegisters.{saved_same, value-written_other}
 
 -- ---- classes

@@ -14,7 +14,7 @@ use Rattle.st_step.specs.Moves.{written}
 use Rattle.st_step.specs.Runs.{HasRegisters, AreValues, AreWords, saved_word, restored}
 use Rattle.st_model.proofs.Places.{number_below}
 use Rattle.st_step.proofs.Writes.{zero-written, values-written, length-written, lo-written, hi-written, register-written_same}
-use Rattle.st_plain.specs.Frames.{value_in, is_kept, with_saved_values}
+use Rattle.st_step.specs.Frames.{value_in, is_kept, with_saved_values}
 use Rattle.st_plain.specs.Standing.{stack_start}
 
 -- ---- writes

@@ -37,39 +37,39 @@ use Rattle.st_plain.proofs.ThreadEnds.{handle_apart, out_low}
 -- ---- of an image
 
 module _ (image : Image) (r : PlainRun) (serving : ∥ IsServing image r ∥₁) where
-  pub back_few : 0x40 ≤ r.machine.state.pc → register r.machine.state registers.Ra < 2 ^ 32
+  pub back_few : 0x40 ≤ r.machine.pc → register r.machine registers.Ra < 2 ^ 32
   back_few call =
       ∥∥₁_elim serving (hlevel le_prop)
-      (λ is. (back_low is.0 is.2.stack is.3 (situation r.machine.state r.board.words.stack) is.4 is.5.is_plain.size (call_at is.0 is.2 r is.3 is.4 is.6 (λ e. omega (arith, e, call)) (λ e. omega (arith, e, call)))).1)
+      (λ is. (back_low is.0 is.2.stack is.3 (situation r.machine r.board.words.stack) is.4 is.5.is_plain.size (call_at is.0 is.2 r is.3 is.4 is.6 (λ e. omega (arith, e, call)) (λ e. omega (arith, e, call)))).1)
 
-  pub back_least : 0x40 ≤ r.machine.state.pc → 0x10004 ≤ register r.machine.state registers.Ra
+  pub back_least : 0x40 ≤ r.machine.pc → 0x10004 ≤ register r.machine registers.Ra
   back_least call =
       ∥∥₁_elim serving (hlevel le_prop)
-      (λ is. (back_low is.0 is.2.stack is.3 (situation r.machine.state r.board.words.stack) is.4 is.5.is_plain.size (call_at is.0 is.2 r is.3 is.4 is.6 (λ e. omega (arith, e, call)) (λ e. omega (arith, e, call)))).0)
+      (λ is. (back_low is.0 is.2.stack is.3 (situation r.machine r.board.words.stack) is.4 is.5.is_plain.size (call_at is.0 is.2 r is.3 is.4 is.6 (λ e. omega (arith, e, call)) (λ e. omega (arith, e, call)))).0)
 
-  pub line_inside : 0x40 ≤ r.machine.state.pc → word_index (register r.machine.state registers.Ra - 4) < length image.lines
+  pub line_inside : 0x40 ≤ r.machine.pc → word_index (register r.machine registers.Ra - 4) < length image.lines
   line_inside call =
       ∥∥₁_elim serving (hlevel le_prop)
       (λ is.
       let at = call_at is.0 is.2 r is.3 is.4 is.6 (λ e. omega (arith, e, call)) (λ e. omega (arith, e, call)) in
-      within_list image.lines (word_index (register r.machine.state registers.Ra - 4)) at.item.line (back_line is.0 image is.2.stack is.3 (situation r.machine.state r.board.words.stack) is.4 is.5.is_plain at))
+      within_list image.lines (word_index (register r.machine registers.Ra - 4)) at.item.line (back_line is.0 image is.2.stack is.3 (situation r.machine r.board.words.stack) is.4 is.5.is_plain at))
 
-  pub touch_inside : r.machine.state.pc ≡ 0x40 → register r.machine.state registers.A6 < length r.threads.cells.items.items
+  pub touch_inside : r.machine.pc ≡ 0x40 → register r.machine registers.A6 < length r.threads.cells.items.items
   touch_inside at = ∥∥₁_elim serving (hlevel le_prop) (λ is. handles.touch_inside is.0 is.1 image is.2 r r is.3 is.4 is.5 is.6 is.7 at)
 
-  pub touch_ended : r.machine.state.pc ≡ 0x40 → slice_get r.threads.cells.items.items (register r.machine.state registers.A6) ≡ Some (FutureCell None) → ⊥
+  pub touch_ended : r.machine.pc ≡ 0x40 → slice_get r.threads.cells.items.items (register r.machine registers.A6) ≡ Some (FutureCell None) → ⊥
   touch_ended at cell = ∥∥₁_elim serving (hlevel le_prop) (λ is. handles.touch_ended is.0 is.1 image is.2 r r is.3 is.4 is.5 is.6 is.7 at cell)
 
-  pub done_inside : r.machine.state.pc ≡ 0x60 → register r.machine.state registers.A6 < length r.threads.cells.items.items
+  pub done_inside : r.machine.pc ≡ 0x60 → register r.machine registers.A6 < length r.threads.cells.items.items
   done_inside at = ∥∥₁_elim serving (hlevel le_prop) (λ is. handles.done_inside is.0 is.1 image is.2 r r is.3 is.4 is.5 is.6 is.7 at)
 
-  pub join_inside : r.machine.state.pc ≡ 0x70 → register r.machine.state registers.A6 < length r.threads.cells.items.items
+  pub join_inside : r.machine.pc ≡ 0x70 → register r.machine registers.A6 < length r.threads.cells.items.items
   join_inside at = ∥∥₁_elim serving (hlevel le_prop) (λ is. handles.join_inside is.0 is.1 image is.2 r r is.3 is.4 is.5 is.6 is.7 at)
 
   -- where a register that isn't ra was written
-  pub written_back : 0x40 ≤ r.machine.state.pc → (m : MachineState) (reg : Reg) (n : ℕ) → IsApart reg → m ≡ written r.machine.state reg n → register m registers.Ra < 2 ^ 32
+  pub written_back : 0x40 ≤ r.machine.pc → (m : MachineState) (reg : Reg) (n : ℕ) → IsApart reg → m ≡ written r.machine reg n → register m registers.Ra < 2 ^ 32
   written_back call m reg n apart is =
-      let same = ap (λ (x : MachineState). register x registers.Ra) is ∙ back_written r.machine.state reg n apart in
+      let same = ap (λ (x : MachineState). register x registers.Ra) is ∙ back_written r.machine reg n apart in
       let few = back_few call in
       omega (arith, same, few)
 
@@ -97,10 +97,10 @@ cell_prop n [] = hlevel le_prop
 cell_prop n (note ∷ notes) = hlevel le_prop
 
 module _ (r : PlainRun) (serving : ∥ ((image : Image) × IsServing image r) ∥₁) where
-  pub way_back : r.machine.state.pc ≢ 0x20 → r.machine.state.pc ≢ 0x30 → (0x10004 ≤ register r.machine.state registers.Ra) × (register r.machine.state registers.Ra < 2 ^ 32)
+  pub way_back : r.machine.pc ≢ 0x20 → r.machine.pc ≢ 0x30 → (0x10004 ≤ register r.machine registers.Ra) × (register r.machine registers.Ra < 2 ^ 32)
   way_back not_out not_end =
       ∥∥₁_elim serving (hlevel le_prop)
-      (λ is. back_low is.1.0 is.1.2.stack is.1.3 (situation r.machine.state r.board.words.stack) is.1.4 is.1.5.is_plain.size (call_at is.1.0 is.1.2 r is.1.3 is.1.4 is.1.6 not_out not_end))
+      (λ is. back_low is.1.0 is.1.2.stack is.1.3 (situation r.machine r.board.words.stack) is.1.4 is.1.5.is_plain.size (call_at is.1.0 is.1.2 r is.1.3 is.1.4 is.1.6 not_out not_end))
 
   pub make_room : r.threads.cells.most ≤ 65536 → MayMake (reverse r.threads.notes.items.items)
   make_room few =
@@ -122,13 +122,13 @@ module _ (r : PlainRun) (serving : ∥ ((image : Image) × IsServing image r) �
       subst (λ (n : ℕ). HasCell n (reverse r.threads.notes.items.items)) (fits_length is.1.3 r.threads.cells.items.items rest kept.stand)
       (has_cell is.1.3 (reverse r.threads.notes.items.items) rest.thread rest.parents kept.notes_stand))
 
-  pub handle_inside : r.machine.state.pc ≡ 0x10 → word_index (register r.machine.state registers.Ra - 4) < length r.code.handles.items
+  pub handle_inside : r.machine.pc ≡ 0x10 → word_index (register r.machine registers.Ra - 4) < length r.code.handles.items
   handle_inside at = ∥∥₁_elim serving (hlevel le_prop) (λ is. fork_inside is.1.0 is.1.1 is.0 is.1.2 r r is.1.3 is.1.4 is.1.5 is.1.6 at)
 
-  pub out_back : r.machine.state.pc ≡ 0x20 → (note : Note) (notes : List Note) → reverse r.threads.notes.items.items ≡ note ∷ notes → register (written r.machine.state note.handle note.cell) registers.Ra < 2 ^ 32
+  pub out_back : r.machine.pc ≡ 0x20 → (note : Note) (notes : List Note) → reverse r.threads.notes.items.items ≡ note ∷ notes → register (written r.machine note.handle note.cell) registers.Ra < 2 ^ 32
   out_back at note notes is_note =
       ∥∥₁_elim serving (hlevel le_prop)
       (λ is.
-      let same = back_written r.machine.state note.handle note.cell (handle_apart is.1.0 is.1.1 is.0 is.1.2 r r is.1.3 is.1.4 is.1.5 is.1.6 at note notes is_note) in
+      let same = back_written r.machine note.handle note.cell (handle_apart is.1.0 is.1.1 is.0 is.1.2 r r is.1.3 is.1.4 is.1.5 is.1.6 at note notes is_note) in
       let low = out_low is.1.0 is.1.1 is.0 is.1.2 r r is.1.3 is.1.4 is.1.5 is.1.6 at note notes is_note in
       omega (arith, same, low))

@@ -9,7 +9,7 @@ use Rattle.st_model.specs.Memory.{byte_below, load_from}
 use Rattle.st_words.specs.Steps.{place_of}
 use Rattle.st_step.specs.Moves.{bytes_of, with_bytes}
 use Rattle.st_step.specs.Runs.{stored}
-use Rattle.st_plain.specs.Frames.{byte_at}
+use Rattle.st_step.specs.Frames.{byte_at}
 use Rattle.st_plain.proofs.FrameWords.{stored_same, stored_other}
 
 -- ---- the bytes of a word

@@ -26,7 +26,8 @@ use Rattle.st_step.specs.Moves.{register, bytes_of, with_bytes, next_pc, at_plac
 use Rattle.st_step.specs.Runs.{Situation, AreWords}
 use Rattle.st_step.proofs.ResultBounds.{extended_fits, bytes_fit}
 use Rattle.st_step.proofs.WordParts.{joined_fits}
-use Rattle.st_plain.specs.Frames.{IsHeldAs, byte_at, HasSlots}
+use Rattle.st_step.specs.Frames.{byte_at}
+use Rattle.st_plain.specs.Frames.{IsHeldAs, HasSlots}
 use Rattle.st_plain.specs.Running.{Leads}
 use Rattle.st_plain.proofs.FrameWords.{stored_same, stored_other, stored_words}
 use Rattle.st_plain.proofs.SlotBytes.{byte_of, with_number, loads_number, byte_stored, byte_kept, length-stored, stored_inside, stored_outside}

@@ -34,7 +34,8 @@ use Rattle.st_plain.specs.declared.cells.Cell.TheVariants.{Future as FutureCell}
 use Rattle.st_plain.specs.declared.cells.Note.{Note}
 use Rattle.st_plain.specs.declared.run.PlainRun.{PlainRun}
 use Rattle.st_plain.specs.declared.stop.Ending.TheVariants as endings
-use Rattle.st_plain.specs.Frames.{value_in, is_kept, IsFrameless, HoldsKept, with_saved_values, IsCaller, Below}
+use Rattle.st_step.specs.Frames.{value_in, is_kept, IsFrameless, HoldsKept, with_saved_values}
+use Rattle.st_plain.specs.Frames.{IsCaller, Below}
 use Rattle.st_plain.specs.Running.{HasTables, IsAtEntry, GoesOn, EndsBy}
 use Rattle.st_plain.specs.Standing.{stack_start, situation, EndsAt, Stands}
 use Rattle.st_plain.specs.Threads.{NotesStand, ForksInto, IsBehindFork, HandlesStand}
@@ -123,12 +124,12 @@ frameless_kept kept long holds = record {
 -- ---- the ends
 
 module _ (p : Program) (d : Data) (image : Image) (limits : Limits) (r r' : PlainRun) (names : List Held) (s : State) (tables : HasTables p image limits r) (entry : IsAtEntry p limits r names s) where
-  pub end_done : r.machine.state.pc ≡ 0x30 → EndsBy p d limits (length r.threads.cells.items.items) r.threads.notes.items.items r.threads.out.items.items s endings.Done
+  pub end_done : r.machine.pc ≡ 0x30 → EndsBy p d limits (length r.threads.cells.items.items) r.threads.notes.items.items r.threads.out.items.items s endings.Done
   end_done is_end =
       let kept = entry.kept in
       let end = ending p d image limits r names s 0x30 tables.is_plain entry is_end (λ e. omega arith) refl in
-      let root = root_at s.top.kind end.at.ret r.machine.state.pc (register r.machine.state registers.Ra) end.at.ends is_end in
-      let value = register r.machine.state registers.A0 in
+      let root = root_at s.top.kind end.at.ret r.machine.pc (register r.machine registers.Ra) end.at.ends is_end in
+      let value = register r.machine registers.A0 in
       let alone : s.rest.parents ≡ [] = subst (λ (kind : ActivationKind). HandlesStand p kind s.rest.older s.rest.thread.handle s.rest.parents) root kept.handles in
       done_ends p d limits (length r.threads.cells.items.items) names r.threads.cells.items.items r.threads.notes.items.items r.threads.out.items.items s kept (end.limit (length r.threads.cells.items.items))
       (end.steps
@@ -136,28 +137,28 @@ module _ (p : Program) (d : Data) (image : Image) (limits : Limits) (r r' : Plai
       ∙ ap (λ (kind : ActivationKind). apply s.rest end.at.item.line (left_by kind s.top.kept value)) root
       ∙ ap (λ (ts : List Tally). ended_in ts s.rest.older s.rest value s.top.kept) alone)
 
-  module _ (is_out : r.machine.state.pc ≡ 0x20) (note : Note) (notes : List Note) (note_is : reverse r.threads.notes.items.items ≡ note ∷ notes) where
-    leaving : IsEnding p d limits names (situation r.machine.state r.board.words.stack) s
+  module _ (is_out : r.machine.pc ≡ 0x20) (note : Note) (notes : List Note) (note_is : reverse r.threads.notes.items.items ≡ note ∷ notes) where
+    leaving : IsEnding p d limits names (situation r.machine r.board.words.stack) s
     leaving = ending p d image limits r names s 0x20 tables.is_plain entry is_out (λ e. omega arith) refl
 
-    kind_is : (s.top.kind ≡ Forked) × (register r.machine.state registers.Ra ≡ leaving.at.ret + 4)
-    kind_is = forked_at s.top.kind leaving.at.ret r.machine.state.pc (register r.machine.state registers.Ra) leaving.at.ends is_out
+    kind_is : (s.top.kind ≡ Forked) × (register r.machine registers.Ra ≡ leaving.at.ret + 4)
+    kind_is = forked_at s.top.kind leaving.at.ret r.machine.pc (register r.machine registers.Ra) leaving.at.ends is_out
 
     notes_stand : NotesStand names (note ∷ notes) (s.rest.thread ∷ s.rest.parents)
     notes_stand = subst (λ (xs : List Note). NotesStand names xs (s.rest.thread ∷ s.rest.parents)) note_is entry.kept.notes_stand
 
-    forker : HasForked p names (situation r.machine.state r.board.words.stack).word (stack_start + limits.stack) (value_in r.machine.state) (register r.machine.state registers.Sp) (register r.machine.state registers.S0) leaving.at.ret s.top.kept note.handle s.rest.older s.rest.parents
+    forker : HasForked p names (situation r.machine r.board.words.stack).word (stack_start + limits.stack) (value_in r.machine) (register r.machine registers.Sp) (register r.machine registers.S0) leaving.at.ret s.top.kept note.handle s.rest.older s.rest.parents
     forker =
-        let word = (situation r.machine.state r.board.words.stack).word in
-        forked_below p names word (stack_start + limits.stack) (value_in r.machine.state) (register r.machine.state registers.Sp) (register r.machine.state registers.S0) leaving.at.ret s.top.kept note.handle s.rest.older s.rest.parents
-        (subst (λ (kind : ActivationKind). Below p names word (stack_start + limits.stack) (value_in r.machine.state) (register r.machine.state registers.Sp) (register r.machine.state registers.S0) leaving.at.ret kind s.top.kept s.rest.older s.rest.parents) kind_is.0 leaving.at.below)
+        let word = (situation r.machine r.board.words.stack).word in
+        forked_below p names word (stack_start + limits.stack) (value_in r.machine) (register r.machine registers.Sp) (register r.machine registers.S0) leaving.at.ret s.top.kept note.handle s.rest.older s.rest.parents
+        (subst (λ (kind : ActivationKind). Below p names word (stack_start + limits.stack) (value_in r.machine) (register r.machine registers.Sp) (register r.machine registers.S0) leaving.at.ret kind s.top.kept s.rest.older s.rest.parents) kind_is.0 leaving.at.below)
         (subst (λ (handle : Reg). HandlesStand p Forked s.rest.older handle s.rest.parents) (sym notes_stand.0.handle) (subst (λ (kind : ActivationKind). HandlesStand p kind s.rest.older s.rest.thread.handle s.rest.parents) kind_is.0 entry.kept.handles))
 
     pub handle_apart : IsApart note.handle
     handle_apart = (handle_register p forker.function note.handle forker.a tables.is_plain.accepted forker.caller.here forker.behind).0
 
     -- the parent's next item lies low
-    pub out_low : register r.machine.state registers.Ra < 2 ^ 32
+    pub out_low : register r.machine registers.Ra < 2 ^ 32
     out_low =
         let caller = forker.caller in
         let ra = kind_is.1 in
@@ -169,14 +170,14 @@ module _ (p : Program) (d : Data) (image : Image) (limits : Limits) (r r' : Plai
     next = record {
       top = forker.a;
       registers = write_register s.top.kept note.handle (Future s.rest.thread.path);
-      rest = ended_rest s.rest forker.others forker.t forker.ts (register r.machine.state registers.A0);
+      rest = ended_rest s.rest forker.others forker.t forker.ts (register r.machine registers.A0);
     }
 
-    out_stands : note.cell < 2 ^ 64 → Stands p limits.stack names (situation (at_place (register r.machine.state registers.Ra) (written r.machine.state note.handle note.cell)) r.board.words.stack) next
+    out_stands : note.cell < 2 ^ 64 → Stands p limits.stack names (situation (at_place (register r.machine registers.Ra) (written r.machine note.handle note.cell)) r.board.words.stack) next
     unfolding next
     out_stands less =
-        let t = situation r.machine.state r.board.words.stack in
-        let pc = register r.machine.state registers.Ra in
+        let t = situation r.machine r.board.words.stack in
+        let pc = register r.machine registers.Ra in
         let caller = forker.caller in
         let may = (handle_register p forker.function note.handle forker.a tables.is_plain.accepted caller.here forker.behind).1 in
         let name = Future s.rest.thread.path in
@@ -186,10 +187,10 @@ module _ (p : Program) (d : Data) (image : Image) (limits : Limits) (r r' : Plai
             function = forker.function;
             here = caller.here;
             machine = written_machine limits.stack t note.handle note.cell pc handle_apart.sp less leaving.at.machine;
-            file = file_written names s.top.kept r.machine.state note.handle note.cell name caller.long leaving.at.machine.has_registers caller.file notes_stand.0.cell;
+            file = file_written names s.top.kept r.machine note.handle note.cell name caller.long leaving.at.machine.has_registers caller.file notes_stand.0.cell;
             frameless = frameless_written s.top.kept note.handle name handle_apart (frameless_kept s.top.kept caller.long caller.holds);
             frames =
-                frames_of p limits.stack names (situation (at_place pc (written r.machine.state note.handle note.cell)) r.board.words.stack) forker.function next forker.a.next caller.begun
+                frames_of p limits.stack names (situation (at_place pc (written r.machine note.handle note.cell)) r.board.words.stack) forker.function next forker.a.next caller.begun
                 (framed_written p limits.stack names t forker.function forker.a forker.others forker.ts note.handle note.cell pc tables.is_plain.accepted handle_apart.sp handle_apart.fp may frame);
           };
           at = kind_is.1 ∙ caller.back.0;
@@ -199,7 +200,7 @@ module _ (p : Program) (d : Data) (image : Image) (limits : Limits) (r r' : Plai
     out_steps : step p d s ≡ Goes' next
     unfolding next
     out_steps =
-        let value = register r.machine.state registers.A0 in
+        let value = register r.machine registers.A0 in
         leaving.steps
         ∙ ap (λ (o : Option ℕ). apply s.rest leaving.at.item.line (with_number o (left_by s.top.kind s.top.kept))) leaving.at.value
         ∙ ap (λ (kind : ActivationKind). apply s.rest leaving.at.item.line (left_by kind s.top.kept value)) kind_is.0
@@ -207,15 +208,15 @@ module _ (p : Program) (d : Data) (image : Image) (limits : Limits) (r r' : Plai
         ∙ ap (λ (xs : List Activation). ended_in (forker.t ∷ forker.ts) xs s.rest value s.top.kept) forker.older_are
         ∙ ap (λ (handle : Reg). Goes' record { top = forker.a; registers = write_register s.top.kept handle (Future s.rest.thread.path); rest = ended_rest s.rest forker.others forker.t forker.ts value }) (sym notes_stand.0.handle)
 
-    pub out_goes : r.threads.cells.most ≤ 65536 → r'.machine.state ≡ at_place (register r.machine.state registers.Ra) (written r.machine.state note.handle note.cell) → r'.board.words.stack ≡ r.board.words.stack
-        → r'.threads.cells.items.items ≡ slice_set r.threads.cells.items.items note.cell (FutureCell (Some (register r.machine.state registers.A0))) → reverse r'.threads.notes.items.items ≡ notes → r'.threads.out.items.items ≡ r.threads.out.items.items
+    pub out_goes : r.threads.cells.most ≤ 65536 → r'.machine ≡ at_place (register r.machine registers.Ra) (written r.machine note.handle note.cell) → r'.board.words.stack ≡ r.board.words.stack
+        → r'.threads.cells.items.items ≡ slice_set r.threads.cells.items.items note.cell (FutureCell (Some (register r.machine registers.A0))) → reverse r'.threads.notes.items.items ≡ notes → r'.threads.out.items.items ≡ r.threads.out.items.items
         → GoesOn p d limits (length r.threads.cells.items.items) r' s
     unfolding next
     out_goes few machine_is words_are cells_are notes_are out_is =
         let kept = entry.kept in
         let cells = r.threads.cells.items.items in
-        let value = register r.machine.state registers.A0 in
-        let m = at_place (register r.machine.state registers.Ra) (written r.machine.state note.handle note.cell) in
+        let value = register r.machine registers.A0 in
+        let m = at_place (register r.machine registers.Ra) (written r.machine note.handle note.cell) in
         let inside = within_list names note.cell (Future s.rest.thread.path) notes_stand.0.cell in
         let many = fits_length names cells s.rest kept.stand in
         let few_cells = kept.few_cells in

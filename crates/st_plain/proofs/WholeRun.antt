@@ -131,7 +131,7 @@ none_begins p image d limits r left made begun (inl at) ready amid less =
 none_begins p image d limits r left made begun (inr x) ready amid less = let none = amid x.0.drawn x.0.s x.0.turns x.0.under x.1 in absurd (omega (arith, none, less))
 
 -- an entry is amid an item
-pub at_entry : (p : Program) (image : Image) (d : Data) (limits : Limits) (r : PlainRun) (left made : ℕ) → r.machine.state.pc < 0x10000 → Stage p image d limits r left made → IsInItem p image d limits r left made
+pub at_entry : (p : Program) (image : Image) (d : Data) (limits : Limits) (r : PlainRun) (left made : ℕ) → r.machine.pc < 0x10000 → Stage p image d limits r left made → IsInItem p image d limits r left made
 at_entry p image d limits r left made low (inl at) =
     let stands = at.0.ready.at.stands in
     let high = (place_bounds p at.0.s.top.function stands.stands.function at.0.s.top.next at.0.ready.tables.is_plain.size stands.stands.here).0 in
@@ -140,8 +140,8 @@ at_entry p image d limits r left made low (inl at) =
 at_entry p image d limits r left made low (inr x) = x.0
 
 -- the table of beginnings has the word at the pc
-pub begins_inside : (p : Program) (image : Image) (d : Data) (limits : Limits) (r : PlainRun) (left made : ℕ) → 0x10000 ≤ r.machine.state.pc → Stage p image d limits r left made → word_index r.machine.state.pc < length image.begins
-begins_inside p image d limits r left made high (inl at) = slice_get_within image.begins (word_index r.machine.state.pc) true (begins_ready p image d limits r at.0.s at.0.ready)
+pub begins_inside : (p : Program) (image : Image) (d : Data) (limits : Limits) (r : PlainRun) (left made : ℕ) → 0x10000 ≤ r.machine.pc → Stage p image d limits r left made → word_index r.machine.pc < length image.begins
+begins_inside p image d limits r left made high (inl at) = slice_get_within image.begins (word_index r.machine.pc) true (begins_ready p image d limits r at.0.s at.0.ready)
 begins_inside p image d limits r left made high (inr x) = beginning_inside p image d limits x.0.drawn r x.0.s x.0.turns high x.0.under
 
 some_left : (turns : ℕ) → (turns ≡ 0 → ⊥) → 1 ≤ turns

@@ -5,17 +5,14 @@ use Rattle.st_base.specs.declared.limits.Limits.{Limits}
 use Rattle.st_base.specs.declared.limits.LimitKind.TheVariants.{Stack, Cell, Step}
 use Rattle.st_model.specs.declared.program.Program.{Program}
 use Rattle.st_model.specs.declared.code.Layout.TheVariants.{Unchanged}
-use Rattle.st_model.specs.Accepted.{IsAccepted}
-use Rattle.st_model.specs.Layout.{HasSize, IsImageOf}
+use Rattle.st_model.specs.Layout.{IsCodeOf}
 use Rattle.st_model.specs.Bounded.{Bounds, BoundedEnd, ended, past_steps, past_cells, past_stack}
 use Rattle.st_plain.specs.declared.whole.PlainEnd.{PlainEnd}
 use Rattle.st_plain.specs.declared.whole.PlainEnd.TheVariants.{Ended, Limit}
 
 -- the image is of the unchanged code of an accepted program
-pub record IsPlainImage (p : Program) (image : Image) : Type 0 where
-  pub accepted : IsAccepted p
-  pub size : HasSize p
-  pub is_image : IsImageOf Unchanged p image.rodata image
+abbrev pub IsPlainImage : Program → Image → Type 0
+IsPlainImage p image = IsCodeOf Unchanged p image
 
 -- there is such a program
 abbrev pub HasProgram : Image → Type 0

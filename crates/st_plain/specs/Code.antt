@@ -1,22 +1,23 @@
 -- The unchanged code of a program at its addresses, and what a run keeps of an image. Read code_at (the instruction at an address),
 -- item_address (where an item begins) and handles_of (the handle registers of forks, by words).
-use Rattle.std.specs.Prelude.{◌≡◌, ℕ, ◌+◌, ◌-◌, ◌*◌, ◌/◌, ◌<◌, ◌≤◌, nat_lt, List, [], ◌∷◌, Option, Some, None, slice_get, slice_set, map, if◌then◌else◌}
+use Rattle.std.specs.Prelude.{◌≡◌, ℕ, ◌-◌, ◌/◌, ◌<◌, ◌≤◌, nat_lt, List, [], ◌∷◌, Option, Some, None, slice_get, slice_set, map, if◌then◌else◌}
 use Rattle.st_base.specs.declared.reg.Reg.{Reg}
 use Rattle.st_base.specs.declared.image.ForkRow.{ForkRow}
 use Rattle.st_rv.specs.declared.ins.Ins.{Ins}
-use Rattle.st_step.specs.declared.sort.Sorted.{Sorted}
+use Rattle.st_step.specs.declared.decoded.Decoded.{Decoded}
 use Rattle.st_model.specs.declared.program.Item.{Item}
 use Rattle.st_model.specs.declared.program.Program.{Program}
 use Rattle.st_model.specs.declared.program.ProgramFunction.{ProgramFunction}
 use Rattle.st_model.specs.declared.code.Layout.TheVariants.{Unchanged}
-use Rattle.st_model.specs.Layout.{code_start, code_of, function_address, item_place}
+use Rattle.st_model.specs.Layout.{code_start, code_of}
+use Rattle.st_step.specs.Frames.{address_in}
 
 -- the word of an address, counted from the first
 abbrev pub word_index : ℕ → ℕ
 word_index address = (address - code_start) / 4
 
 -- the instructions of a table
-abbrev pub instructions_of : List Sorted → List Ins
+abbrev pub instructions_of : List Decoded → List Ins
 instructions_of table = map (λ s. s.ins) table
 
 -- the instruction of the word at an address
@@ -25,7 +26,7 @@ code_at p pc = if nat_lt pc code_start then None else slice_get (code_of Unchang
 
 -- the address of an item's first word
 abbrev pub item_address : Program → ℕ → ProgramFunction → ℕ → ℕ
-item_address p f function i = function_address Unchanged p f + 4 * item_place Unchanged function i
+item_address p f function i = address_in Unchanged p f function i
 
 -- the item i of the function f
 pub record HasItem (p : Program) (f : ℕ) (function : ProgramFunction) (i : ℕ) (item : Item) : Type 0 where

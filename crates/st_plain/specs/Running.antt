@@ -104,7 +104,7 @@ pub record ComesTo (p : Program) (d : Data) (limits : Limits) (r : PlainRun) (s'
   pub n : ℕ
   pub few : n ≤ 20
   pub t : Situation
-  pub way : OnWay p d limits.stack n (situation r.machine.state r.board.words.stack) t
+  pub way : OnWay p d limits.stack n (situation r.machine r.board.words.stack) t
   pub stands : Stands p limits.stack names t s'
   pub kept : IsKept p limits names r.threads.cells.items.items r.threads.notes.items.items r.threads.out.items.items s'
 
@@ -129,7 +129,7 @@ pub record HasTables (p : Program) (image : Image) (limits : Limits) (r : PlainR
 -- at an entry that belongs to the item at which s is
 pub record IsAtEntry (p : Program) (limits : Limits) (r : PlainRun) (names : List Held) (s : State) : Type 0 where
   pub kept : IsKept p limits names r.threads.cells.items.items r.threads.notes.items.items r.threads.out.items.items s
-  pub at : AtCall p limits.stack names (situation r.machine.state r.board.words.stack) s ⊎ AtEnd p limits.stack names (situation r.machine.state r.board.words.stack) s
+  pub at : AtCall p limits.stack names (situation r.machine r.board.words.stack) s ⊎ AtEnd p limits.stack names (situation r.machine r.board.words.stack) s
 
 -- the machine is at an entry of an item that reads nothing undefined
 abbrev pub IsServing : Image → PlainRun → Type 0
@@ -154,14 +154,14 @@ pub record HasBoard (board : PlainBoard) : Type 0 where
 -- the run is at the first instruction of the item at which s is, and can go on from there
 pub record IsReady (p : Program) (image : Image) (d : Data) (limits : Limits) (r : PlainRun) (s : State) : Type 0 where
   pub tables : HasTables p image limits r
-  pub at : IsAt p limits r.machine.state r.board.words.stack r.threads.cells.items.items r.threads.notes.items.items r.threads.out.items.items s
+  pub at : IsAt p limits r.machine r.board.words.stack r.threads.cells.items.items r.threads.notes.items.items r.threads.out.items.items s
   pub defined : IsDefinedFrom p d s
 
 -- The run is amid the item at which s is, with so many turns left at most. It is at its beginning; or comes to an entry that the item calls,
 -- or in some instructions to the next item.
 abbrev pub Starts : Program → Limits → ℕ → PlainRun → State → ℕ → Type 0
 Starts p limits drawn r s left =
-    (42 ≤ left) × (length r.threads.cells.items.items ≡ drawn) × IsAt p limits r.machine.state r.board.words.stack r.threads.cells.items.items r.threads.notes.items.items r.threads.out.items.items s
+    (42 ≤ left) × (length r.threads.cells.items.items ≡ drawn) × IsAt p limits r.machine r.board.words.stack r.threads.cells.items.items r.threads.notes.items.items r.threads.out.items.items s
 
 pub record Calls (p : Program) (d : Data) (limits : Limits) (drawn : ℕ) (r : PlainRun) (s : State) (left : ℕ) : Type 0 where
   pub names : List Held
@@ -169,7 +169,7 @@ pub record Calls (p : Program) (d : Data) (limits : Limits) (drawn : ℕ) (r : P
   pub small : n ≤ 20
   pub few : n + 21 ≤ left
   pub t : Situation
-  pub way : OnWay p d limits.stack n (situation r.machine.state r.board.words.stack) t
+  pub way : OnWay p d limits.stack n (situation r.machine r.board.words.stack) t
   pub at : AtCall p limits.stack names t s ⊎ AtEnd p limits.stack names t s
   pub kept : IsKept p limits names r.threads.cells.items.items r.threads.notes.items.items r.threads.out.items.items s
   pub drawn_yet : length r.threads.cells.items.items ≡ drawn

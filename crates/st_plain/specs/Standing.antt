@@ -17,7 +17,8 @@ use Rattle.st_step.specs.declared.state.State.{State as MachineState}
 use Rattle.st_step.specs.Moves.{register}
 use Rattle.st_step.specs.Runs.{Situation, HasRegisters, AreWords, AreValues, return_word, caller_word}
 use Rattle.st_plain.specs.Code.{item_address}
-use Rattle.st_plain.specs.Frames.{value_in, HasFile, IsFrameless, HasSlots, with_saved_values, end_entry, Below}
+use Rattle.st_step.specs.Frames.{value_in, IsFrameless, with_saved_values}
+use Rattle.st_plain.specs.Frames.{HasFile, HasSlots, end_entry, Below}
 
 -- the stack begins here
 abbrev pub stack_start : ℕ

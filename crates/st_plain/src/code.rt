@@ -1,4 +1,4 @@
-//! What a run keeps of an image: its instructions, decoded and sorted once, and the registers of the handles of its forks.
+//! What a run keeps of an image: its instructions, decoded once, and the registers of the handles of its forks.
 ghost use Rattle.std.specs.Prelude.{◌≡◌, ◌<◌, ◌≤◌, ◌*◌, List, IfOk, length, replicate};
 ghost use Rattle.st_base.specs.declared.image.Image.{Image};
 ghost use Rattle.st_base.specs.declared.reg.Reg.TheVariants.{Zero};
@@ -12,7 +12,7 @@ ghost use Rattle.st_plain.specs.Code.{AreInCode, handles_of, instructions_of, wo
 use st_base::image::{ForkRow, Image};
 use st_base::reg::Reg;
 use st_rv::code::decode;
-use st_step::Sorted;
+use st_step::Decoded;
 use std::alloc::{AllocError, Global};
 
 /// Where the code begins.
@@ -26,8 +26,8 @@ pub(crate) fn word_index(address: u32) -> usize
     ((address - CODE_START) / 4) as usize
 }
 
-/// The instructions of words, sorted.
-fn decoded(alloc: Global, words: &[u32]) -> Result<Vec<Sorted>, AllocError>
+/// The instructions of words, decoded.
+fn decoded(alloc: Global, words: &[u32]) -> Result<Vec<Decoded>, AllocError>
     requires { ∥ ((instructions : List Ins) × AreWords instructions words.now) ∥₁ }
     ensures { IfOk result (λ found. (instructions : List Ins) → AreWords instructions words.now → instructions_of found.items ≡ instructions) }
 {
@@ -36,7 +36,7 @@ fn decoded(alloc: Global, words: &[u32]) -> Result<Vec<Sorted>, AllocError>
         let Some(instruction) = decode(*word) else {
             unreachable!()
         };
-        found.push(Sorted::of(instruction))?;
+        found.push(Decoded::of(instruction))?;
     }
     Ok(found)
 }
@@ -56,7 +56,7 @@ fn handles(alloc: Global, forks: &[ForkRow], count: usize) -> Result<Vec<Reg>, A
 /// The instructions of an image, and for the first jump of each fork the register of its handle, both by words.
 #[derive(Drop)]
 pub struct Code {
-    pub(crate) instructions: Vec<Sorted>,
+    pub(crate) instructions: Vec<Decoded>,
     pub(crate) handles: Vec<Reg>,
 }
 

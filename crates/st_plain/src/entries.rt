@@ -54,16 +54,16 @@ fn counted(count: u64) -> u64
 impl PlainRun {
     /// The address behind the jump that called the entry.
     fn back(&self) -> u32
-        requires { register self.now.machine.state Ra < 2 ^ 32 }
-        ensures { result ≡ register self.now.machine.state Ra }
+        requires { register self.now.machine Ra < 2 ^ 32 }
+        ensures { result ≡ register self.now.machine Ra }
     {
         self.machine.reg(Reg::Ra) as u32
     }
 
     /// Goes on behind the jump that called the entry.
     fn go_back(&mut self)
-        requires { register self.old.machine.state Ra < 2 ^ 32 }
-        ensures machine { self.new.machine.state ≡ at_place (register self.old.machine.state Ra) self.old.machine.state }
+        requires { register self.old.machine Ra < 2 ^ 32 }
+        ensures machine { self.new.machine ≡ at_place (register self.old.machine Ra) self.old.machine }
         ensures board { self.new.board ≡ self.old.board }
         ensures code { self.new.code ≡ self.old.code }
         ensures threads { self.new.threads ≡ self.old.threads }
@@ -74,30 +74,30 @@ impl PlainRun {
 
     /// The line of the call.
     fn line_of_call(&self, image: &Image) -> Line
-        requires low { 0x10004 ≤ register self.now.machine.state Ra }
-        requires high { register self.now.machine.state Ra < 2 ^ 32 }
-        requires inside { word_index (register self.now.machine.state Ra - 4) < length image.now.lines }
-        ensures { slice_get image.now.lines (word_index (register self.now.machine.state Ra - 4)) ≡ Some result }
+        requires low { 0x10004 ≤ register self.now.machine Ra }
+        requires high { register self.now.machine Ra < 2 ^ 32 }
+        requires inside { word_index (register self.now.machine Ra - 4) < length image.now.lines }
+        ensures { slice_get image.now.lines (word_index (register self.now.machine Ra - 4)) ≡ Some result }
     {
         image.lines.as_slice()[word_index(self.back() - 4)]
     }
 
     /// The register of the fork that called the entry.
     fn handle_of_fork(&self) -> Reg
-        requires low { 0x10004 ≤ register self.now.machine.state Ra }
-        requires high { register self.now.machine.state Ra < 2 ^ 32 }
-        requires inside { word_index (register self.now.machine.state Ra - 4) < length self.now.code.handles.items }
-        ensures { slice_get self.now.code.handles.items (word_index (register self.now.machine.state Ra - 4)) ≡ Some result }
+        requires low { 0x10004 ≤ register self.now.machine Ra }
+        requires high { register self.now.machine Ra < 2 ^ 32 }
+        requires inside { word_index (register self.now.machine Ra - 4) < length self.now.code.handles.items }
+        ensures { slice_get self.now.code.handles.items (word_index (register self.now.machine Ra - 4)) ≡ Some result }
     {
         self.code.handles.as_slice()[word_index(self.back() - 4)]
     }
 
     /// The thread traps at the call.
     fn trap(&self, image: &Image, kind: TrapKind) -> Ending
-        requires low { 0x10004 ≤ register self.now.machine.state Ra }
-        requires high { register self.now.machine.state Ra < 2 ^ 32 }
-        requires inside { word_index (register self.now.machine.state Ra - 4) < length image.now.lines }
-        ensures { (line : Line) × (slice_get image.now.lines (word_index (register self.now.machine.state Ra - 4)) ≡ Some line) × (result ≡ Trap kind line) }
+        requires low { 0x10004 ≤ register self.now.machine Ra }
+        requires high { register self.now.machine Ra < 2 ^ 32 }
+        requires inside { word_index (register self.now.machine Ra - 4) < length image.now.lines }
+        ensures { (line : Line) × (slice_get image.now.lines (word_index (register self.now.machine Ra - 4)) ≡ Some line) × (result ≡ Trap kind line) }
     {
         Ending::Trap {
             kind,
@@ -116,7 +116,7 @@ impl PlainRun {
 
     /// `st_fork_in`: the running thread makes a child, which the next jump calls.
     fn fork_in(&mut self) -> Option<Ending>
-        requires at { self.old.machine.state.pc ≡ 0x10 }
+        requires at { self.old.machine.pc ≡ 0x10 }
         requires serving { ∥ ((image : Image) × IsServing image self.old) ∥₁ }
         ensures { (image : Image) → Served image self.old self.new result }
     {
@@ -131,7 +131,7 @@ impl PlainRun {
 
     /// `st_fork_out`: the running thread has ended with a0, and its parent gets its future.
     fn fork_out(&mut self) -> Option<Ending>
-        requires at { self.old.machine.state.pc ≡ 0x20 }
+        requires at { self.old.machine.pc ≡ 0x20 }
         requires serving { ∥ ((image : Image) × IsServing image self.old) ∥₁ }
         ensures { (image : Image) → Served image self.old self.new result }
     {
@@ -143,7 +143,7 @@ impl PlainRun {
 
     /// `st_touch`: a0 becomes the value of the future in a6.
     fn touch(&mut self, image: &Image) -> Option<Ending>
-        requires at { self.old.machine.state.pc ≡ 0x40 }
+        requires at { self.old.machine.pc ≡ 0x40 }
         requires serving { ∥ IsServing image.now self.old ∥₁ }
         ensures { Served image.now self.old self.new result }
     {
@@ -160,7 +160,7 @@ impl PlainRun {
 
     /// `st_counter`: a6 becomes a new counter.
     fn counter(&mut self) -> Option<Ending>
-        requires at { self.old.machine.state.pc ≡ 0x50 }
+        requires at { self.old.machine.pc ≡ 0x50 }
         requires serving { ∥ ((image : Image) × IsServing image self.old) ∥₁ }
         ensures { (image : Image) → Served image self.old self.new result }
     {
@@ -175,7 +175,7 @@ impl PlainRun {
 
     /// `st_done`: adds 1 to the counter in a6.
     fn done(&mut self, image: &Image) -> Option<Ending>
-        requires at { self.old.machine.state.pc ≡ 0x60 }
+        requires at { self.old.machine.pc ≡ 0x60 }
         requires serving { ∥ IsServing image.now self.old ∥₁ }
         ensures { Served image.now self.old self.new result }
     {
@@ -192,7 +192,7 @@ impl PlainRun {
 
     /// `st_join`: passes where the counter in a6 has at least the count in a0.
     fn join(&mut self, image: &Image) -> Option<Ending>
-        requires at { self.old.machine.state.pc ≡ 0x70 }
+        requires at { self.old.machine.pc ≡ 0x70 }
         requires serving { ∥ IsServing image.now self.old ∥₁ }
         ensures { Served image.now self.old self.new result }
     {
@@ -212,7 +212,7 @@ impl PlainRun {
 
     /// `st_putc`: the root prints the low byte of a0.
     fn putc(&mut self, image: &Image) -> Option<Ending>
-        requires at { self.old.machine.state.pc ≡ 0x90 }
+        requires at { self.old.machine.pc ≡ 0x90 }
         requires serving { ∥ IsServing image.now self.old ∥₁ }
         ensures { Served image.now self.old self.new result }
     {
@@ -230,14 +230,14 @@ impl PlainRun {
 
     /// `st_poll`: nothing is done.
     fn poll(&mut self) -> Option<Ending>
-        requires fork_in { self.old.machine.state.pc ≢ 0x10 }
-        requires fork_out { self.old.machine.state.pc ≢ 0x20 }
-        requires end { self.old.machine.state.pc ≢ 0x30 }
-        requires touch { self.old.machine.state.pc ≢ 0x40 }
-        requires counter { self.old.machine.state.pc ≢ 0x50 }
-        requires done { self.old.machine.state.pc ≢ 0x60 }
-        requires join { self.old.machine.state.pc ≢ 0x70 }
-        requires putc { self.old.machine.state.pc ≢ 0x90 }
+        requires fork_in { self.old.machine.pc ≢ 0x10 }
+        requires fork_out { self.old.machine.pc ≢ 0x20 }
+        requires end { self.old.machine.pc ≢ 0x30 }
+        requires touch { self.old.machine.pc ≢ 0x40 }
+        requires counter { self.old.machine.pc ≢ 0x50 }
+        requires done { self.old.machine.pc ≢ 0x60 }
+        requires join { self.old.machine.pc ≢ 0x70 }
+        requires putc { self.old.machine.pc ≢ 0x90 }
         requires serving { ∥ ((image : Image) × IsServing image self.old) ∥₁ }
         ensures { (image : Image) → Served image self.old self.new result }
     {

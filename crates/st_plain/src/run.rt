@@ -8,7 +8,7 @@ ghost use Rattle.st_model.specs.declared.ordinary.State.{State};
 ghost use Rattle.st_model.specs.Memory.{Data, data_of};
 ghost use Rattle.st_model.specs.Ordinary.{start};
 ghost use Rattle.st_words.specs.Laws.{named, progress_of};
-ghost use Rattle.st_words.specs.Views.{no_load};
+ghost use Rattle.st_words.specs.Views.{no_cargo};
 ghost use Rattle.st_plain.specs.Answer.{HasProgram, IsPlainImage};
 ghost use Rattle.st_plain.specs.Endings.{end_by};
 ghost use Rattle.st_plain.specs.Running.{EndsBy, HasBoard, IsDefinedFrom, IsReady, IsUnderWay, TurnLeads};
@@ -22,7 +22,7 @@ use st_base::image::Image;
 use st_base::limits::{LimitKind, Limits};
 use st_base::reg::Reg;
 use st_step::{Machine, StepEnd};
-use st_words::board::Next;
+use st_words::board::NamesView;
 use st_words::plain::PlainBoard;
 use std::alloc::{AllocError, Global};
 use std::marker::Brand;
@@ -39,10 +39,10 @@ const LEAST_CELLS: u32 = 16;
 /// The view after a step, where the worker's threads do nothing by it.
 struct Plainly;
 
-impl Next for Plainly {
+impl NamesView for Plainly {
     ghost after = { λ v s a. named (progress_of v) v s a };
 
-    ghost load = { λ _ _ _. no_load };
+    ghost cargo = { λ _ _ _. no_cargo };
 }
 
 /// The limits of a board of which the words of the stack alone are used: it has as few cells as a board may have.
@@ -99,15 +99,15 @@ impl PlainRun {
 
     /// Whether the run is at an entry of the runtime.
     pub fn is_at_entry(&self) -> bool
-        ensures { result ≡ nat_lt self.now.machine.state.pc 0x10000 }
+        ensures { result ≡ nat_lt self.now.machine.pc 0x10000 }
     {
         self.machine.pc() < CODE_START
     }
 
     /// How many items begin with the next instruction: one at an item's first, and none amid it.
     pub fn begun(&self, image: &Image) -> u64
-        requires code { 0x10000 ≤ self.now.machine.state.pc }
-        requires inside { word_index self.now.machine.state.pc < length image.now.begins }
+        requires code { 0x10000 ≤ self.now.machine.pc }
+        requires inside { word_index self.now.machine.pc < length image.now.begins }
         ensures ready { (p : Program) → (d : Data) → (limits : Limits) → (s : State) → IsReady p image.now d limits self.now s → result ≡ 1 }
         ensures amid { (p : Program) → (d : Data) → (limits : Limits) → (drawn : ℕ) → (s : State) → (left : ℕ) → IsUnderWay p image.now d limits drawn self.now s left → left < 42 → result ≡ 0 }
     {
@@ -122,7 +122,7 @@ impl PlainRun {
     /// Amid an item the run is amid it still, with fewer turns left, or it stands for the next state of the ordinary-call run; it says why
     /// the run ends where the item ends it or meets a limit.
     pub fn serve(&mut self, image: &Image) -> Option<Ending>
-        requires entry { self.old.machine.state.pc < 0x10000 }
+        requires entry { self.old.machine.pc < 0x10000 }
         requires board { HasBoard self.old.board }
         requires amid { ∥ ((p : Program) × (d : Data) × (limits : Limits) × (drawn : ℕ) × (s : State) × (left : ℕ) × IsUnderWay p image.now d limits drawn self.old s left) ∥₁ }
         ensures board { HasBoard self.new.board }
@@ -137,7 +137,7 @@ impl PlainRun {
     /// Amid an item the run is amid it still, with fewer turns left, or it stands for the next state of the ordinary-call run; it says why
     /// the run ends where the item ends it or meets a limit.
     pub fn instruction(&mut self, image: &Image, input: &[u8]) -> Option<Ending>
-        requires code { 0x10000 ≤ self.old.machine.state.pc }
+        requires code { 0x10000 ≤ self.old.machine.pc }
         requires board { HasBoard self.old.board }
         requires amid { ∥ ((p : Program) × (limits : Limits) × (drawn : ℕ) × (s : State) × (left : ℕ) × IsUnderWay p image.now (data_of image.now.rodata input.now) limits drawn self.old s left) ∥₁ }
         ensures board { HasBoard self.new.board }

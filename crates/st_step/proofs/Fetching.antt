@@ -13,7 +13,6 @@ use Rattle.st_rv.specs.Fields.{immediate, field, FitsForm}
 use Rattle.st_rv.specs.Results.{word_of}
 use Rattle.st_rv.specs.Rows.{IsRow, GivesRow, FitsRow, FitsTable, SomeRow}
 use Rattle.st_model.specs.Memory.{Data}
-use Rattle.st_words.specs.declared.view.View.{View}
 use Rattle.st_words.specs.Steps.{Step, Answer}
 use Rattle.st_step.specs.declared.state.State.{State}
 use Rattle.st_step.specs.declared.machine.StepEnd.{StepEnd}
@@ -102,13 +101,13 @@ may_move asks image d m i x entry may only same =
     ])
 
 -- and what was done is the step
-pub stepped : {Board : Type 0} (says : Step → Answer → Type 0) (did : Step → Answer → Board → Type 0) (after : Step → Answer → View) (view : Board → View) (old : Board) (m : State) (image : Image) (d : Data) (end : StepEnd) (new : State) (board : Board) (i : Ins) (x : Move)
-    → is_entry m.pc ≡ false → ((j : Ins) → Fetches image m.pc j → Some i ≡ Some j) → x ≡ move_of d m i → Moves says did after view old m x end new board → Stepped says did after view old m image d end new board
-stepped says did after view old m image d end new board i x entry only same moves = record {
+pub stepped : {Board : Type 0} (made : Step → Answer → Board → Type 0) (old : Board) (m : State) (image : Image) (d : Data) (end : StepEnd) (new : State) (board : Board) (i : Ins) (x : Move)
+    → is_entry m.pc ≡ false → ((j : Ins) → Fetches image m.pc j → Some i ≡ Some j) → x ≡ move_of d m i → Moves made old m x end new board → Stepped made old m image d end new board
+stepped made old m image d end new board i x entry only same moves = record {
   entry = λ is. absurd (let never : ⊥ = cc in never);
   moved = λ no_entry j fetches.
       let e = only j fetches in
       let one : i ≡ j = cc in
-      subst (λ (k : Ins). Moves says did after view old m (move_of d m k) end new board) one
-      (subst (λ (y : Move). Moves says did after view old m y end new board) same moves);
+      subst (λ (k : Ins). Moves made old m (move_of d m k) end new board) one
+      (subst (λ (y : Move). Moves made old m y end new board) same moves);
 }

@@ -1,6 +1,6 @@
 -- An augmented epilogue gives the caller's registers, and then frees its frame or marks it (augmented_law). Behind the loads of the frame
 -- stand two branches: both pass where sp is below the base and the base is at most gp (frees), else one of them is taken (marks).
-use Rattle.std.proofs.Common.{◌≡◌, ◌≢◌, ◌⊎◌, ℕ, ◌+◌, ◌-◌, ◌*◌, ◌%◌, ◌^◌, ◌<◌, ◌≤◌, ℤ, pos, negsuc, ◌-ℤ◌, Bool, true, false, not, List, length, Option, Some, refl, ap, ◌∙◌, arith, inl, inr}
+use Rattle.std.proofs.Common.{◌≡◌, ◌≢◌, ◌⊎◌, ℕ, suc, ◌+◌, ◌-◌, ◌*◌, ◌%◌, ◌^◌, ◌<◌, ◌≤◌, ℤ, pos, negsuc, ◌-ℤ◌, Bool, true, false, not, List, length, Option, Some, refl, ap, ◌∙◌, arith, inl, inr}
 use Rattle.std.proofs.lemmas.Bool.{lt-ltb, le-ltb}
 use Rattle.std.proofs.lemmas.Int.{ints}
 use Rattle.st_base.specs.declared.reg.Reg.{Reg}
@@ -13,12 +13,13 @@ use Rattle.st_model.specs.Memory.{Data}
 use Rattle.st_model.specs.Layout.{saved_of, augmented_ins, freeing_ins, distance}
 use Rattle.st_step.specs.declared.state.State.{State}
 use Rattle.st_step.specs.Moves.{register, written, at_place, from_pc}
-use Rattle.st_step.specs.Runs.{Situation, AreWords, IsStretch, IsBase, HoldsFrame, IsReturn, ran, HasCode, stored, with_caller, return_word, RunsAugmented}
+use Rattle.st_step.specs.Runs.{Situation, AreWords, IsStretch, IsBase, HoldsFrame, IsReturn, HasCode, RunsStretch, stored, with_caller, return_word, RunsAugmented}
 use Rattle.st_step.proofs.Writes.{length-written, register-within, register-written_same, register-written_other}
 use Rattle.st_step.proofs.SavedList.{AreAbove, saved_above, saved_fit}
-use Rattle.st_step.proofs.Straight.{plain_code, step, stays, adds, marks_word, branches, passes, returns}
+use Rattle.st_step.proofs.Paths.{ran, cut, has-cut, stretch}
+use Rattle.st_step.proofs.Straight.{plain_code, step, stays, after, adds, marks_word, branches, passes, returns}
 use Rattle.st_step.proofs.Prologues.{frame_word, frame_held, frame_address}
-use Rattle.st_step.proofs.Restoring.{restoring_run, restored_pc, restored_at, caller-ra, caller-low}
+use Rattle.st_step.proofs.Restoring.{loading_ins, loaded_pc, length-loading, loading_code, loading_run, caller-ra, caller-low}
 
 -- ---- branches forward
 
@@ -130,88 +131,146 @@ marks_second d code held lo bytes b ra pc at keep m word there is has less beyon
     (branches d held s1 ops.Bltu registers.Gp registers.Tp (distance (at + 1) keep) (pc + 4 + 4 + 4 + 4) refl (bltu_taken (register m registers.Gp) (register m registers.Tp) b is.tp beyond) (forward (pc + 4) (at + 1) keep 3 (omega arith) (omega arith) ∙ target))
     (keeps d code held lo bytes b ra pc at keep m word is has))
 
+-- ---- augmented epilogues, behind the first instruction
+
+-- what is known there
+record IsLeaving (code : ℕ → Option Ins) (held : ℕ → Bool) (lo bytes b : ℕ) (saved : List Reg) (top : State) (word : ℕ → ℕ) (pc at keep : ℕ) : Type 0 where
+  words : AreWords word
+  above : AreAbove saved
+  room : 16 + 8 * length saved ≤ bytes
+  base : IsBase lo bytes b
+  holds : HoldsFrame held bytes b
+  tp : register top registers.Tp ≡ b
+  long : 1 < length top.registers
+  low : pc + 4 * (8 + length saved) < 2 ^ 32
+  keep_is : keep ≡ at + 6 + length saved
+  code_is : HasCode code pc at (loading_ins saved (freeing_ins keep))
+  target : IsReturn (word (return_word b))
+
+module _ (d : Data) (code : ℕ → Option Ins) (held : ℕ → Bool) (lo bytes b : ℕ) (saved : List Reg) (top : State) (word : ℕ → ℕ) (pc at keep : ℕ) (is : IsLeaving code held lo bytes b saved top word pc at keep) where
+  low_is : (q : Reg) → reg_number q < 8 → reg_number q ≢ 1 → register (with_caller word b saved top) q ≡ register top q
+  low_is q few other = caller-low word b saved top q is.above few other
+
+  restored_is : IsRestored held lo bytes b (word (return_word b)) (loaded_pc pc (length saved)) (record { state = at_place (loaded_pc pc (length saved)) (with_caller word b saved top); word = word })
+  restored_is =
+      let low = is.low in
+      let room = is.room in
+      record {
+        base = is.base;
+        holds = is.holds;
+        room = omega arith;
+        tp = low_is registers.Tp (omega arith) (λ e. absurd (omega (arith, e))) ∙ is.tp;
+        ra_is = caller-ra word b saved top is.above is.long;
+        target = is.target;
+        low = omega arith;
+      }
+
+  leaving_frees : register top registers.Sp < b → b ≤ register top registers.Gp → ran d code held (6 + length saved) (record { state = at_place pc top; word = word }) ≡ Some (record { state = at_place (word (return_word b)) (written (with_caller word b saved top) registers.Sp b); word = word })
+  leaving_frees less most =
+      let low = is.low in
+      let sp = low_is registers.Sp (omega arith) (λ e. absurd (omega (arith, e))) in
+      let gp = low_is registers.Gp (omega arith) (λ e. absurd (omega (arith, e))) in
+      loading_run d code held lo bytes b saved (freeing_ins keep) top word pc at 4 (6 + length saved) _ is.words is.above is.room is.base is.holds is.tp (omega arith) (omega arith) is.code_is
+      (λ rest. frees d code held lo bytes b (word (return_word b)) (loaded_pc pc (length saved)) (at + 1 + length saved + 1) keep (with_caller word b saved top) word restored_is rest (omega arith) (omega arith))
+
+  leaving_first : b ≤ register top registers.Sp → ran d code held (5 + length saved) (record { state = at_place pc top; word = word }) ≡ Some (record { state = at_place (word (return_word b)) (with_caller word b saved top); word = stored (return_word b) 0 word })
+  leaving_first most =
+      let low = is.low in
+      let keep_is = is.keep_is in
+      let sp = low_is registers.Sp (omega arith) (λ e. absurd (omega (arith, e))) in
+      loading_run d code held lo bytes b saved (freeing_ins keep) top word pc at 3 (5 + length saved) _ is.words is.above is.room is.base is.holds is.tp (omega arith) (omega arith) is.code_is
+      (λ rest. marks_first d code held lo bytes b (word (return_word b)) (loaded_pc pc (length saved)) (at + 1 + length saved + 1) keep (with_caller word b saved top) word (omega arith) restored_is rest (omega arith))
+
+  leaving_second : register top registers.Sp < b → register top registers.Gp < b → ran d code held (6 + length saved) (record { state = at_place pc top; word = word }) ≡ Some (record { state = at_place (word (return_word b)) (with_caller word b saved top); word = stored (return_word b) 0 word })
+  leaving_second less beyond =
+      let low = is.low in
+      let keep_is = is.keep_is in
+      let sp = low_is registers.Sp (omega arith) (λ e. absurd (omega (arith, e))) in
+      let gp = low_is registers.Gp (omega arith) (λ e. absurd (omega (arith, e))) in
+      loading_run d code held lo bytes b saved (freeing_ins keep) top word pc at 4 (6 + length saved) _ is.words is.above is.room is.base is.holds is.tp (omega arith) (omega arith) is.code_is
+      (λ rest. marks_second d code held lo bytes b (word (return_word b)) (loaded_pc pc (length saved)) (at + 1 + length saved + 1) keep (with_caller word b saved top) word (omega arith) restored_is rest (omega arith) (omega arith))
+
 -- ---- augmented epilogues
-
--- the registers behind the loads
-abbrev behind : List Reg → Situation → State
-behind saved s = with_caller s.word (register s.state registers.S0) saved (written s.state registers.Tp (register s.state registers.S0))
-
-behind_low : (saved : List Reg) (s : Situation) (q : Reg) → AreAbove saved → reg_number q < 4 → reg_number q ≢ 1 → register (behind saved s) q ≡ register s.state q
-behind_low saved s q above few other =
-    let apart : reg_number q ≢ 4 = omega arith in
-    let fewer : reg_number q < 8 = omega arith in
-    caller-low s.word (register s.state registers.S0) saved (written s.state registers.Tp (register s.state registers.S0)) q above fewer other
-    ∙ register-written_other s.state registers.Tp q (register s.state registers.S0) apart
-
-behind_is : (held : ℕ → Bool) (bytes : ℕ) (saved : List Reg) (s : Situation) → AreWords s.word → AreAbove saved → 16 + 8 * length saved ≤ bytes → IsBase s.state.lo bytes (register s.state registers.S0) → HoldsFrame held bytes (register s.state registers.S0) → IsReturn (s.word (return_word (register s.state registers.S0))) → IsStretch s.state.pc (9 + length saved)
-    → IsRestored held s.state.lo bytes (register s.state registers.S0) (s.word (return_word (register s.state registers.S0))) (restored_pc s.state.pc (length saved)) (record { state = at_place (restored_pc s.state.pc (length saved)) (behind saved s); word = s.word })
-behind_is held bytes saved s words above room base holds target stretch =
-    let low = stretch.below in
-    let b = register s.state registers.S0 in
-    let stack = base.stack in
-    let inside = base.room in
-    let there = register-within s.state registers.S0 (omega arith) in
-    let longer = length-written s.state registers.Tp b in
-    record {
-      base = base;
-      holds = holds;
-      room = omega arith;
-      tp = caller-low s.word b saved (written s.state registers.Tp b) registers.Tp above (omega arith) (λ e. absurd (omega (arith, e))) ∙ register-written_same s.state registers.Tp b (omega arith) refl;
-      ra_is = caller-ra s.word b saved (written s.state registers.Tp b) above (omega arith);
-      target = target;
-      low = omega arith;
-    }
-
-augmented_frees : (d : Data) (code : ℕ → Option Ins) (held : ℕ → Bool) (bytes : ℕ) (saved : List Reg) (s : Situation) (at : ℕ) → AreWords s.word → AreAbove saved → 16 + 8 * length saved ≤ bytes → HasCode code s.state.pc at (augmented_ins at saved) → IsBase s.state.lo bytes (register s.state registers.S0) → HoldsFrame held bytes (register s.state registers.S0) → IsReturn (s.word (return_word (register s.state registers.S0))) → IsStretch s.state.pc (9 + length saved)
-    → register s.state registers.Sp < register s.state registers.S0 → register s.state registers.S0 ≤ register s.state registers.Gp
-    → ran d code held (7 + length saved) s ≡ Some (record { state = at_place (s.word (return_word (register s.state registers.S0))) (written (behind saved s) registers.Sp (register s.state registers.S0)); word = s.word })
-augmented_frees d code held bytes saved s at words above room has base holds target stretch less most =
-    let low = stretch.below in
-    let b = register s.state registers.S0 in
-    let sp = behind_low saved s registers.Sp above (omega arith) (λ e. absurd (omega (arith, e))) in
-    let gp = behind_low saved s registers.Gp above (omega arith) (λ e. absurd (omega (arith, e))) in
-    restoring_run d code held s.state.lo bytes saved (freeing_ins (at + length saved + 7)) s at 4 (7 + length saved) _ words above room base holds (omega arith) (omega arith) has
-    (λ rest. frees d code held s.state.lo bytes b (s.word (return_word b)) (restored_pc s.state.pc (length saved)) (restored_at at (length saved)) (at + length saved + 7) (behind saved s) s.word
-    (behind_is held bytes saved s words above room base holds target stretch) rest (omega arith) (omega arith))
-
-augmented_first : (d : Data) (code : ℕ → Option Ins) (held : ℕ → Bool) (bytes : ℕ) (saved : List Reg) (s : Situation) (at : ℕ) → AreWords s.word → AreAbove saved → 16 + 8 * length saved ≤ bytes → HasCode code s.state.pc at (augmented_ins at saved) → IsBase s.state.lo bytes (register s.state registers.S0) → HoldsFrame held bytes (register s.state registers.S0) → IsReturn (s.word (return_word (register s.state registers.S0))) → IsStretch s.state.pc (9 + length saved)
-    → register s.state registers.S0 ≤ register s.state registers.Sp
-    → ran d code held (6 + length saved) s ≡ Some (record { state = at_place (s.word (return_word (register s.state registers.S0))) (behind saved s); word = stored (return_word (register s.state registers.S0)) 0 s.word })
-augmented_first d code held bytes saved s at words above room has base holds target stretch most =
-    let low = stretch.below in
-    let b = register s.state registers.S0 in
-    let sp = behind_low saved s registers.Sp above (omega arith) (λ e. absurd (omega (arith, e))) in
-    restoring_run d code held s.state.lo bytes saved (freeing_ins (at + length saved + 7)) s at 3 (6 + length saved) _ words above room base holds (omega arith) (omega arith) has
-    (λ rest. marks_first d code held s.state.lo bytes b (s.word (return_word b)) (restored_pc s.state.pc (length saved)) (restored_at at (length saved)) (at + length saved + 7) (behind saved s) s.word (omega arith)
-    (behind_is held bytes saved s words above room base holds target stretch) rest (omega arith))
-
-augmented_second : (d : Data) (code : ℕ → Option Ins) (held : ℕ → Bool) (bytes : ℕ) (saved : List Reg) (s : Situation) (at : ℕ) → AreWords s.word → AreAbove saved → 16 + 8 * length saved ≤ bytes → HasCode code s.state.pc at (augmented_ins at saved) → IsBase s.state.lo bytes (register s.state registers.S0) → HoldsFrame held bytes (register s.state registers.S0) → IsReturn (s.word (return_word (register s.state registers.S0))) → IsStretch s.state.pc (9 + length saved)
-    → register s.state registers.Sp < register s.state registers.S0 → register s.state registers.Gp < register s.state registers.S0
-    → ran d code held (7 + length saved) s ≡ Some (record { state = at_place (s.word (return_word (register s.state registers.S0))) (behind saved s); word = stored (return_word (register s.state registers.S0)) 0 s.word })
-augmented_second d code held bytes saved s at words above room has base holds target stretch less beyond =
-    let low = stretch.below in
-    let b = register s.state registers.S0 in
-    let sp = behind_low saved s registers.Sp above (omega arith) (λ e. absurd (omega (arith, e))) in
-    let gp = behind_low saved s registers.Gp above (omega arith) (λ e. absurd (omega (arith, e))) in
-    restoring_run d code held s.state.lo bytes saved (freeing_ins (at + length saved + 7)) s at 4 (7 + length saved) _ words above room base holds (omega arith) (omega arith) has
-    (λ rest. marks_second d code held s.state.lo bytes b (s.word (return_word b)) (restored_pc s.state.pc (length saved)) (restored_at at (length saved)) (at + length saved + 7) (behind saved s) s.word (omega arith)
-    (behind_is held bytes saved s words above room base holds target stretch) rest (omega arith) (omega arith))
 
 sides : (a b : ℕ) → (a < b) ⊎ (b ≤ a)
 sides a b = grind arith
 
-augmented_marks : (d : Data) (code : ℕ → Option Ins) (held : ℕ → Bool) (bytes : ℕ) (saved : List Reg) (s : Situation) (at : ℕ) → AreWords s.word → AreAbove saved → 16 + 8 * length saved ≤ bytes → HasCode code s.state.pc at (augmented_ins at saved) → IsBase s.state.lo bytes (register s.state registers.S0) → HoldsFrame held bytes (register s.state registers.S0) → IsReturn (s.word (return_word (register s.state registers.S0))) → IsStretch s.state.pc (9 + length saved)
-    → (register s.state registers.S0 ≤ register s.state registers.Sp) ⊎ (register s.state registers.Gp < register s.state registers.S0)
-    → (count : ℕ) × (ran d code held count s ≡ Some (record { state = at_place (s.word (return_word (register s.state registers.S0))) (behind saved s); word = stored (return_word (register s.state registers.S0)) 0 s.word }))
-augmented_marks d code held bytes saved s at words above room has base holds target stretch (inl most) = (6 + length saved, augmented_first d code held bytes saved s at words above room has base holds target stretch most)
-augmented_marks d code held bytes saved s at words above room has base holds target stretch (inr beyond) =
-    elim (sides (register s.state registers.Sp) (register s.state registers.S0)) [
-      | inl less ↦ (7 + length saved, augmented_second d code held bytes saved s at words above room has base holds target stretch less beyond)
-      | inr most ↦ (6 + length saved, augmented_first d code held bytes saved s at words above room has base holds target stretch most)
-    ]
+module _ (d : Data) (code : ℕ → Option Ins) (held : ℕ → Bool) (lo bytes : ℕ) (saved : List Reg) (s : Situation) (at : ℕ) (words : AreWords s.word) (above : AreAbove saved) (room : 16 + 8 * length saved ≤ bytes) (has : HasCode code s.state.pc at (augmented_ins at saved)) (base : IsBase lo bytes (register s.state registers.S0)) (holds : HoldsFrame held bytes (register s.state registers.S0)) (target : IsReturn (s.word (return_word (register s.state registers.S0)))) (stretched : IsStretch s.state.pc (9 + length saved)) where
+  abbrev b : ℕ
+  b = register s.state registers.S0
+
+  abbrev top : State
+  top = written s.state registers.Tp b
+
+  abbrev keep : ℕ
+  keep = at + length saved + 7
+
+  -- the code behind the first word
+  abbrev rest : ℕ → Option Ins
+  rest = cut code (s.state.pc + 4) (8 + length saved)
+
+  is_leaving : IsLeaving rest held lo bytes b saved top s.word (s.state.pc + 4) (at + 1) keep
+  is_leaving =
+      let low = stretched.below in
+      let stack = base.stack in
+      let inside = base.room in
+      let there = register-within s.state registers.S0 (omega arith) in
+      let longer = length-written s.state registers.Tp b in
+      let long = length-loading saved (freeing_ins keep) in
+      record {
+        words = words;
+        above = above;
+        room = room;
+        base = base;
+        holds = holds;
+        tp = register-written_same s.state registers.Tp b (omega arith) refl;
+        long = omega arith;
+        low = omega arith;
+        keep_is = omega arith;
+        code_is = has-cut code (s.state.pc + 4) (8 + length saved) (s.state.pc + 4) (at + 1) (loading_ins saved (freeing_ins keep)) 0 (omega arith) (omega arith) (loading_code code s.state.pc at saved (freeing_ins keep) has);
+        target = target;
+      }
+
+  -- the first instruction, and the rest behind it
+  leaves : (n count : ℕ) (t : Situation) → count ≡ suc n → ran d rest held n (record { state = at_place (s.state.pc + 4) top; word = s.word }) ≡ Some t → RunsStretch d code held (9 + length saved) count s t
+  leaves n count t counts goes =
+      let low = stretched.below in
+      let high = base.high in
+      let same : (b + 0) % 2 ^ 64 ≡ b = omega arith in
+      stretch d code held (9 + length saved) (8 + length saved) n count s (after s registers.Tp b) t _ (omega arith) counts
+      (plain_code code s.state.pc _ has.0)
+      (adds d held s registers.Tp registers.S0 (pos 0) b refl same (omega arith))
+      goes
+
+  apart : (q : Reg) → reg_number q < 4 → register top q ≡ register s.state q
+  apart q few = register-written_other s.state registers.Tp q b (λ e. absurd (omega (arith, e)))
+
+  augmented_frees : register s.state registers.Sp < b → b ≤ register s.state registers.Gp → RunsStretch d code held (9 + length saved) (7 + length saved) s (record { state = at_place (s.word (return_word b)) (written (with_caller s.word b saved top) registers.Sp b); word = s.word })
+  augmented_frees less most =
+      let sp = apart registers.Sp (omega arith) in
+      let gp = apart registers.Gp (omega arith) in
+      leaves (6 + length saved) (7 + length saved) _ (omega arith) (leaving_frees d rest held lo bytes b saved top s.word (s.state.pc + 4) (at + 1) keep is_leaving (omega arith) (omega arith))
+
+  abbrev Marks : ℕ → Type 0
+  Marks count = RunsStretch d code held (9 + length saved) count s (record { state = at_place (s.word (return_word b)) (with_caller s.word b saved top); word = stored (return_word b) 0 s.word })
+
+  marked_first : b ≤ register s.state registers.Sp → Marks (6 + length saved)
+  marked_first most =
+      let sp = apart registers.Sp (omega arith) in
+      leaves (5 + length saved) (6 + length saved) _ (omega arith) (leaving_first d rest held lo bytes b saved top s.word (s.state.pc + 4) (at + 1) keep is_leaving (omega arith))
+
+  marked_second : register s.state registers.Sp < b → register s.state registers.Gp < b → Marks (7 + length saved)
+  marked_second less beyond =
+      let sp = apart registers.Sp (omega arith) in
+      let gp = apart registers.Gp (omega arith) in
+      leaves (6 + length saved) (7 + length saved) _ (omega arith) (leaving_second d rest held lo bytes b saved top s.word (s.state.pc + 4) (at + 1) keep is_leaving (omega arith) (omega arith))
+
+  augmented_marks : (b ≤ register s.state registers.Sp) ⊎ (register s.state registers.Gp < b) → (count : ℕ) × (count ≤ 7 + length saved) × Marks count
+  augmented_marks (inl most) = (6 + length saved, omega arith, marked_first most)
+  augmented_marks (inr beyond) = elim (sides (register s.state registers.Sp) b) [ inl less ↦ (7 + length saved, omega arith, marked_second less beyond) | inr most ↦ (6 + length saved, omega arith, marked_first most) ]
 
 pub augmented_law : RunsAugmented
-augmented_law d code held function s at words has code_is base holds target stretch = (
-  augmented_frees d code held function.frame_bytes (saved_of function) s at words (saved_above function) (saved_fit function has) code_is base holds target stretch,
-  augmented_marks d code held function.frame_bytes (saved_of function) s at words (saved_above function) (saved_fit function has) code_is base holds target stretch,
+augmented_law d code held function s lo at words has code_is base holds target stretched = (
+  augmented_frees d code held lo function.frame_bytes (saved_of function) s at words (saved_above function) (saved_fit function has) code_is base holds target stretched,
+  augmented_marks d code held lo function.frame_bytes (saved_of function) s at words (saved_above function) (saved_fit function has) code_is base holds target stretched,
 )

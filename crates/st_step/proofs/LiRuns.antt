@@ -20,9 +20,10 @@ use Rattle.st_model.specs.declared.code.PostedIns.TheVariants as posted
 use Rattle.st_model.specs.Layout.{immediate_ins, upper_ins, addi, below, is_short, low_part, high_part, with_low_part, IsWordValue}
 use Rattle.st_step.specs.declared.state.State.{State}
 use Rattle.st_step.specs.Moves.{makes_frame, register, written, at_place}
-use Rattle.st_step.specs.Runs.{Situation, HasRegisters, ran, HasCode, RunsLi}
+use Rattle.st_step.specs.Runs.{Situation, HasRegisters, RunsStretch, HasCode, RunsLi}
 use Rattle.st_step.proofs.ResultBounds.{word_small}
 use Rattle.st_step.proofs.Writes.{written-at_place, written-written, register-written_same}
+use Rattle.st_step.proofs.Paths.{cut, has-cut, stretch}
 use Rattle.st_step.proofs.Straight.{plain_code, step, stays, after, adds, uppers, low_adds}
 
 -- ---- numbers
@@ -101,7 +102,7 @@ high_makes z is none =
 -- ---- runs
 
 abbrev Gives : Data → (ℕ → Option Ins) → (ℕ → Bool) → Situation → Reg → ℤ → List PostedIns → Type 0
-Gives d code held s rd value is = ran d code held (length is) s ≡ Some (record { state = at_place (s.state.pc + 4 * length is) (written s.state rd (word_of value)); word = s.word })
+Gives d code held s rd value is = RunsStretch d code held (length is) (length is) s (record { state = at_place (s.state.pc + 4 * length is) (written s.state rd (word_of value)); word = s.word })
 
 no_frame : (r : Reg) (imm : ℤ) → makes_frame (immediate_ins ops.Addi r registers.Zero imm) ≡ false
 no_frame r imm = ap (λ (b : Bool). b && int_lt imm (pos 0)) (and-false (reg_number r == 2))
@@ -112,10 +113,10 @@ zero_sum n small = omega arith
 short_runs : (d : Data) (code : ℕ → Option Ins) (held : ℕ → Bool) (s : Situation) (at : ℕ) (rd : Reg) (value : ℤ) → HasRegisters s.state → IsWordValue value → HasCode code s.state.pc at (addi rd registers.Zero value ∷ []) → s.state.pc + 4 < 2 ^ 32 → Gives d code held s rd value (addi rd registers.Zero value ∷ [])
 short_runs d code held s at rd value has_registers is has low =
     let small = word_small value is.1 in
-    step d code held s (after s rd (word_of value)) _ _ 0 1 refl
+    stretch d code held 1 0 0 1 s (after s rd (word_of value)) (after s rd (word_of value)) _ refl refl
     (plain_code code s.state.pc _ has.0)
     (adds d held s rd registers.Zero value (word_of value) (no_frame rd value) (ap (λ (n : ℕ). (n + word_of value) % 2 ^ 64) has_registers.origin ∙ zero_sum (word_of value) small) low)
-    (stays d code held (after s rd (word_of value)))
+    (stays d (cut code (s.state.pc + 4) 0) held (after s rd (word_of value)))
 
 -- a number that is not written matters not
 put_same : (b : Bool) (m : State) (k x y : ℕ) → (b ≡ false → x ≡ y) → (if b then m else record m { registers = slice_set m.registers k x }) ≡ (if b then m else record m { registers = slice_set m.registers k y })
@@ -148,25 +149,27 @@ long_runs : (d : Data) (code : ℕ → Option Ins) (held : ℕ → Bool) (s : Si
     → Gives d code held s rd value (posted.Plain (upper_ins ops.Lui rd (pos (high_part value))) ∷ (if b then [] else posted.Plain (immediate_ins ops.Addiw rd rd (low_part value)) ∷ []))
 unfolding alu
 long_runs d code held s at rd value true none has_registers is has low =
-    step d code held s (after s rd (word_of value)) _ _ 0 1 refl
+    stretch d code held 1 0 0 1 s (after s rd (word_of value)) (after s rd (word_of value)) _ refl refl
     (plain_code code s.state.pc _ has.0)
     (uppers d held s rd (pos (high_part value)) (word_of value) (high_makes value is (none refl)) low)
-    (stays d code held (after s rd (word_of value)))
+    (stays d (cut code (s.state.pc + 4) 0) held (after s rd (word_of value)))
 long_runs d code held s at rd value false none has_registers is has low =
     let x = upper (high_part value) in
     let t = after s rd x in
     let one : s.state.pc + 4 < 2 ^ 32 = omega arith in
     let two : s.state.pc + 4 + 4 < 2 ^ 32 = omega arith in
-    step d code held s t _ _ 1 2 refl
+    let rest = cut code (s.state.pc + 4) 1 in
+    let behind = has-cut code (s.state.pc + 4) 1 (s.state.pc + 4) (at + 1) (posted.Plain (immediate_ins ops.Addiw rd rd (low_part value)) ∷ []) 0 (omega arith) (omega arith) has.1 in
+    stretch d code held 2 1 1 2 s t _ _ refl refl
     (plain_code code s.state.pc _ has.0)
     (uppers d held s rd (pos (high_part value)) x refl one)
-    (step d code held t _ _ _ 0 1 refl
-    (plain_code code (s.state.pc + 4) _ has.1.0)
+    (step d rest held t _ _ _ 0 1 refl
+    (plain_code rest (s.state.pc + 4) _ behind.0)
     (low_adds d held t rd rd (low_part value) (sum_low (register t.state rd) (word_of (low_part value))) refl two)
-    (stays d code held _ ∙ ap (λ (u : Situation). Some u) (two_written s rd value has_registers is)))
+    (stays d rest held _ ∙ ap (λ (u : Situation). Some u) (two_written s rd value has_registers is)))
 
 pub li_law : RunsLi
-li_law d code held s at rd value has_registers is has stretch = go (is_short value) has stretch.below
+li_law d code held s at rd value has_registers is has stretched = go (is_short value) has stretched.below
   where
     go : (b : Bool) → HasCode code s.state.pc at (if b then addi rd registers.Zero value ∷ [] else posted.Plain (upper_ins ops.Lui rd (pos (high_part value))) ∷ with_low_part rd (low_part value))
         → s.state.pc + 4 * length (if b then addi rd registers.Zero value ∷ [] else posted.Plain (upper_ins ops.Lui rd (pos (high_part value))) ∷ with_low_part rd (low_part value)) < 2 ^ 32

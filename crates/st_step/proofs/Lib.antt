@@ -2,6 +2,7 @@ pub mod WordParts
 pub mod ResultBounds
 pub mod Fetching
 pub mod Writes
+pub mod Paths
 pub mod Straight
 pub mod LiRuns
 pub mod SavedList
@@ -10,5 +11,6 @@ pub mod Restoring
 pub mod Freeing
 pub mod Epilogues
 pub mod Steps
-pub mod Sorting
+pub mod RolesSuit
 pub mod StackWords
+pub mod BoardKept

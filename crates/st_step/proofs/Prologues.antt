@@ -1,5 +1,5 @@
 -- A prologue makes its frame (prologue_law): it lowers sp, stores ra, s0 and the saved registers (stores_run), and leaves s0 at the base.
-use Rattle.std.proofs.Common.{◌≡◌, ◌≢◌, ℕ, suc, ◌+◌, ◌-◌, ◌*◌, ◌%◌, ◌^◌, ◌<◌, ◌≤◌, ℤ, pos, ◌-ℤ◌, Bool, true, List, [], ◌∷◌, ◌++◌, length, Option, Some, refl, ap, ◌∙◌, arith}
+use Rattle.std.proofs.Common.{◌≡◌, ◌≢◌, ℕ, suc, ◌+◌, ◌-◌, ◌*◌, ◌%◌, ◌^◌, ◌<◌, ◌≤◌, ℤ, pos, ◌-ℤ◌, Bool, true, List, [], ◌∷◌, ◌++◌, length, Option, Some, refl, ap, ◌∙◌, arith, length-append}
 use Rattle.st_base.specs.declared.reg.Reg.{Reg}
 use Rattle.st_base.specs.declared.reg.Reg.TheVariants as registers
 use Rattle.st_base.specs.Reg.{reg_number}
@@ -8,13 +8,14 @@ use Rattle.st_rv.specs.declared.ins.Ins.{Ins}
 use Rattle.st_rv.specs.Results.{word_of}
 use Rattle.st_model.specs.Memory.{Data}
 use Rattle.st_model.specs.declared.code.PostedIns.{PostedIns}
-use Rattle.st_model.specs.Layout.{saved_of, prologue_ins, stores, addi, store_ins}
+use Rattle.st_model.specs.Layout.{saved_of, prologue_ins, stores, addi, sd, store_ins}
 use Rattle.st_words.specs.Steps.{place_of}
 use Rattle.st_step.specs.declared.state.State.{State}
 use Rattle.st_step.specs.Moves.{register, written, at_place}
-use Rattle.st_step.specs.Runs.{Situation, IsStretch, IsBase, HoldsFrame, ran, HasCode, stored, with_saved, with_frame, saved_word, RunsPrologue}
+use Rattle.st_step.specs.Runs.{Situation, IsStretch, IsBase, HoldsFrame, HasCode, RunsStretch, stored, with_saved, with_frame, saved_word, RunsPrologue}
 use Rattle.st_step.proofs.Writes.{register-within, register-written_same, register-written_other}
 use Rattle.st_step.proofs.SavedList.{AreAbove, saved_above, saved_fit}
+use Rattle.st_step.proofs.Paths.{ran, cut, has-cut, stretch}
 use Rattle.st_step.proofs.Straight.{plain_code, code_behind, step, stays, after, after_store, adds, frames, stores_word, word_at, IsWordAddress}
 
 -- a word of a frame has an address on the stack
@@ -74,14 +75,14 @@ length-stores base top k (r ∷ rs) = ap suc (length-stores base top (k + 1) rs)
 
 -- for any saved registers
 prologue_runs : (d : Data) (code : ℕ → Option Ins) (held : ℕ → Bool) (bytes : ℕ) (saved : List Reg) (s : Situation) (at : ℕ) → AreAbove saved → 16 + 8 * length saved ≤ bytes → bytes ≤ 2032 → HasCode code s.state.pc at (prologue_ins bytes saved) → IsBase s.state.lo bytes (register s.state registers.Sp) → HoldsFrame held bytes (register s.state registers.Sp) → IsStretch s.state.pc (4 + length saved)
-    → ran d code held (4 + length saved) s ≡ Some (record {
+    → RunsStretch d code held (4 + length saved) (4 + length saved) s (record {
       state = at_place (s.state.pc + 4 * (4 + length saved)) (written (written s.state registers.Sp (register s.state registers.Sp - bytes)) registers.S0 (register s.state registers.Sp));
       word = with_frame s.state (register s.state registers.Sp) saved s.word;
     })
-prologue_runs d code held bytes saved s at above room most has base holds stretch =
+prologue_runs d code held bytes saved s at above room most has base holds stretched =
     let m = s.state in
     let b = register s.state registers.Sp in
-    let low = stretch.below in
+    let low = stretched.below in
     let inside = base.room in
     let high = base.high in
     let stack = base.stack in
@@ -97,28 +98,33 @@ prologue_runs d code held bytes saved s at above room most has base holds stretc
     let made : Option Situation = Some (record { state = at_place (m.pc + 4 * (4 + length saved)) (written lowered registers.S0 b); word = s4.word }) in
     let up : (b - bytes + bytes) % 2 ^ 64 ≡ b = omega arith in
     let last : m.pc + 4 + 4 + 4 + 4 * length saved + 4 ≡ m.pc + 4 * (4 + length saved) = omega arith in
-    step d code held s s1 made _ (3 + length saved) (4 + length saved) (omega arith)
+    let tail = stores registers.Sp (pos bytes) 0 saved ++ addi registers.S0 registers.Sp (pos bytes) ∷ [] in
+    let stored_long = length-stores registers.Sp (pos bytes) 0 saved in
+    let tail_long = length-append (stores registers.Sp (pos bytes) 0 saved) (addi registers.S0 registers.Sp (pos bytes) ∷ []) in
+    let rest = cut code (m.pc + 4) (3 + length saved) in
+    let behind = has-cut code (m.pc + 4) (3 + length saved) (m.pc + 4) (at + 1) (sd registers.Ra (pos bytes -ℤ pos 8) registers.Sp ∷ sd registers.S0 (pos bytes -ℤ pos 16) registers.Sp ∷ tail) 0 (omega arith) (omega arith) has.1 in
+    stretch d code held (4 + length saved) (3 + length saved) (3 + length saved) (4 + length saved) s s1 (record { state = at_place (m.pc + 4 * (4 + length saved)) (written lowered registers.S0 b); word = s4.word }) _ (omega arith) (omega arith)
     (plain_code code m.pc _ has.0)
     (frames d held s bytes (omega arith) (omega arith) inside (omega arith) (omega arith))
-    (step d code held s1 s2 made _ (2 + length saved) (3 + length saved) (omega arith)
-    (plain_code code (m.pc + 4) _ has.1.0)
+    (step d rest held s1 s2 made _ (2 + length saved) (3 + length saved) (omega arith)
+    (plain_code rest (m.pc + 4) _ behind.0)
     (stores_word d held s1 registers.Sp registers.Ra (pos bytes -ℤ pos 8) (b - 8) (register m registers.Ra) refl refl
     (frame_address m.lo bytes b 8 bytes _ base (omega arith) (omega arith) sp)
     (frame_word m.lo bytes b 8 base (omega arith) (omega arith) refl)
     (frame_held held m.lo bytes b 8 base holds (omega arith) (omega arith) refl)
     (register-written_other m registers.Sp registers.Ra (b - bytes) (λ e. absurd (omega (arith, e)))) (omega arith))
-    (step d code held s2 s3 made _ (1 + length saved) (2 + length saved) (omega arith)
-    (plain_code code (m.pc + 4 + 4) _ has.1.1.0)
+    (step d rest held s2 s3 made _ (1 + length saved) (2 + length saved) (omega arith)
+    (plain_code rest (m.pc + 4 + 4) _ behind.1.0)
     (stores_word d held s2 registers.Sp registers.S0 (pos bytes -ℤ pos 16) (b - 16) (register m registers.S0) refl refl
     (frame_address m.lo bytes b 16 bytes _ base (omega arith) (omega arith) sp)
     (frame_word m.lo bytes b 16 base (omega arith) (omega arith) refl)
     (frame_held held m.lo bytes b 16 base holds (omega arith) (omega arith) refl)
     (register-written_other m registers.Sp registers.S0 (b - bytes) (λ e. absurd (omega (arith, e)))) (omega arith))
-    (stores_run d code held m m.lo bytes b base holds there saved (addi registers.S0 registers.Sp (pos bytes) ∷ []) 0 (m.pc + 4 + 4 + 4) (at + 1 + 1 + 1) end 1 (1 + length saved) s3.word made above (omega arith) (omega arith) (omega arith) (omega arith) has.1.1.1
-    (step d code held s4 s5 made _ 0 1 refl
-    (plain_code code end _ (code_behind code (m.pc + 4 + 4 + 4) (at + 1 + 1 + 1) (length saved) (stores registers.Sp (pos bytes) 0 saved) _ (length-stores registers.Sp (pos bytes) 0 saved) has.1.1.1).0)
+    (stores_run d rest held m m.lo bytes b base holds there saved (addi registers.S0 registers.Sp (pos bytes) ∷ []) 0 (m.pc + 4 + 4 + 4) (at + 1 + 1 + 1) end 1 (1 + length saved) s3.word made above (omega arith) (omega arith) (omega arith) (omega arith) behind.1.1
+    (step d rest held s4 s5 made _ 0 1 refl
+    (plain_code rest end _ (code_behind rest (m.pc + 4 + 4 + 4) (at + 1 + 1 + 1) (length saved) (stores registers.Sp (pos bytes) 0 saved) _ (length-stores registers.Sp (pos bytes) 0 saved) behind.1.1).0)
     (adds d held s4 registers.S0 registers.Sp (pos bytes) b refl (ap (λ (n : ℕ). (n + bytes) % 2 ^ 64) sp ∙ up) (omega arith))
-    (stays d code held s5 ∙ ap (λ (p : ℕ). Some (record { state = at_place p (written lowered registers.S0 b); word = s4.word })) last)))))
+    (stays d rest held s5 ∙ ap (λ (p : ℕ). Some (record { state = at_place p (written lowered registers.S0 b); word = s4.word })) last)))))
 
 pub prologue_law : RunsPrologue
-prologue_law d code held function s at has code_is base holds stretch = prologue_runs d code held function.frame_bytes (saved_of function) s at (saved_above function) (saved_fit function has) has.most code_is base holds stretch
+prologue_law d code held function s at has code_is base holds stretched = prologue_runs d code held function.frame_bytes (saved_of function) s at (saved_above function) (saved_fit function has) has.most code_is base holds stretched

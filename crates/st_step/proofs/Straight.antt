@@ -23,7 +23,8 @@ use Rattle.st_words.specs.Steps.{place_of}
 use Rattle.st_step.specs.declared.state.State.{State}
 use Rattle.st_step.specs.declared.machine.StepEnd.TheVariants.{StackFull}
 use Rattle.st_step.specs.Moves.{Goes, Reads, Writes, Marks, Stops, Outside, move_of, register, written, at_place, results, goes_on, next_pc, from_pc, makes_frame, frame_of, positive_part, lacks_room, immediate_move, address_of, in_one_word, bytes_of, stack_load, data_load, move_as, is_stack, is_mark, word_store, stack_store, indirect_move}
-use Rattle.st_step.specs.Runs.{Situation, stored, where_held, moved, moved_by, ran, HasCode, IsReturn}
+use Rattle.st_step.specs.Runs.{Situation, stored, where_held, moved, moved_by, HasCode, IsReturn}
+use Rattle.st_step.proofs.Paths.{ran}
 use Rattle.st_step.proofs.Writes.{pc-written}
 
 -- ---- code

@@ -5,7 +5,7 @@ use Rattle.st_rv.specs.Results.{access_size, extended}
 use Rattle.st_step.specs.declared.state.State.{State}
 use Rattle.st_step.specs.declared.act.Act.{Act}
 use Rattle.st_step.specs.declared.act.Act.TheVariants as acts
-use Rattle.st_step.specs.Sorts.{word_at}
+use Rattle.st_step.specs.Roles.{word_at}
 use Rattle.st_step.specs.Moves.{Move, Goes, Reads, Writes, Marks, Stops, Outside, results, at_place, written, goes_on, bytes_of}
 
 -- the move of a machine that an act stands for

@@ -1,4 +1,5 @@
 pub mod Moves
 pub mod Acts
 pub mod Runs
-pub mod Sorts
+pub mod Frames
+pub mod Roles

@@ -16,7 +16,6 @@ use Rattle.st_rv.specs.Op.{kind_of, op_number}
 use Rattle.st_rv.specs.Rows.{IsRow}
 use Rattle.st_rv.specs.Results.{word_of, alu, is_taken, access_size, extended}
 use Rattle.st_model.specs.Memory.{Data, data_byte, load_from}
-use Rattle.st_words.specs.declared.view.View.{View}
 use Rattle.st_words.specs.Steps.{Step, StackLoad, StackStore, Mark, Answer, Done, Number, place_of}
 use Rattle.st_step.specs.declared.state.State.{State}
 use Rattle.st_step.specs.declared.machine.StepEnd.{StepEnd}
@@ -208,17 +207,14 @@ MayMove asks Outside = ⊥
 abbrev pub MayStep : (Step → Type 0) → Image → Data → State → Type 0
 MayStep asks image d m = (is_entry m.pc ≡ true) ⊎ ((i : Ins) × Fetches image m.pc i × MayMove asks (move_of d m i))
 
--- what a step does: the machine before and after, the board before and after, what the board may answer, what it leaves, and the view
-module _ {Board : Type 0} (says : Step → Answer → Type 0) (did : Step → Answer → Board → Type 0) (after : Step → Answer → View) (view : Board → View) (old : Board) (m : State) where
-  -- the board makes a step with this answer
-  abbrev pub Makes : Board → Step → Answer → Type 0
-  Makes new s a = says s a × did s a new × (view new ≡ after s a)
-
+-- what a step does: the machine before and after, the board before and after, and which step of the board was made with which answer (`made`, of which
+-- StepMade is the one that contracts speak of); where none was made the board is as it was
+module _ {Board : Type 0} (made : Step → Answer → Board → Type 0) (old : Board) (m : State) where
   abbrev pub Moves : Move → StepEnd → State → Board → Type 0
   Moves (Goes m') end new board = (end ≡ Ran) × (new ≡ m') × (board ≡ old)
-  Moves (Reads p go) end new board = (end ≡ Ran) × ((n : ℕ) × Makes board (StackLoad p) (Number n) × (new ≡ go n))
-  Moves (Writes p n m') end new board = (end ≡ Ran) × (new ≡ m') × Makes board (StackStore p n) Done
-  Moves (Marks p m') end new board = (end ≡ Ran) × (new ≡ m') × Makes board (Mark p) Done
+  Moves (Reads p go) end new board = (end ≡ Ran) × ((n : ℕ) × made (StackLoad p) (Number n) board × (new ≡ go n))
+  Moves (Writes p n m') end new board = (end ≡ Ran) × (new ≡ m') × made (StackStore p n) Done board
+  Moves (Marks p m') end new board = (end ≡ Ran) × (new ≡ m') × made (Mark p) Done board
   Moves (Stops e) end new board = (end ≡ e) × (new ≡ m) × (board ≡ old)
   Moves Outside end new board = ⊥
 

@@ -1,8 +1,9 @@
 -- What stretches of laid out code do on the machine with its stack words: a prologue, an epilogue as written, an augmented epilogue, a pure
--- copy, and `li`. Read ran (so many instructions, from the pc on, which speak of held words alone), HasCode (the code at an address), and
--- the laws: RunsPrologue, RunsEpilogue, RunsPureCopy, RunsAugmented, RunsLi. A frame has its base b at the value of sp before its prologue:
--- the return address stands at b - 8, the caller's s0 at b - 16, the k-th saved register at b - 24 - 8k.
-use Rattle.std.specs.Prelude.{Bool, true, false, ◌≡◌, ◌⊎◌, ℕ, zero, suc, ◌+◌, ◌*◌, ◌-◌, ◌%◌, ◌^◌, ◌<◌, ◌≤◌, ℤ, ◌==◌, List, [], ◌∷◌, length, Option, Some, None, option_and_then, slice_index, if◌then◌else◌}
+-- copy, and `li`. Read RunsStretch (a stretch is run from its first word, and no place on the way begins another stretch), HasCode (the code at an
+-- address), and the laws: RunsPrologue, RunsEpilogue, RunsPureCopy, RunsAugmented, RunsLi. A frame has its base b at the value of sp before
+-- its prologue: the return address stands at b - 8, the caller's s0 at b - 16, the k-th saved register at b - 24 - 8k. Its words may lie on
+-- the machine's own stack or on another: the stack that a base is on is told by its low end alone.
+use Rattle.std.specs.Prelude.{Bool, true, false, ◌≡◌, ◌⊎◌, ℕ, zero, suc, ◌+◌, ◌*◌, ◌-◌, ◌%◌, ◌^◌, ◌<◌, ◌≤◌, ℤ, ◌==◌, List, [], ◌∷◌, length, Option, Some, None, slice_index, if◌then◌else◌}
 use Rattle.st_base.specs.declared.reg.Reg.{Reg}
 use Rattle.st_base.specs.declared.reg.Reg.TheVariants as registers
 use Rattle.st_rv.specs.declared.ins.Ins.{Ins}
@@ -58,10 +59,26 @@ abbrev pub moved_by : Data → (ℕ → Bool) → Situation → Option Ins → O
 moved_by d held s None = None
 moved_by d held s (Some i) = moved held s (move_of d s.state i)
 
--- so many instructions, each the one at the pc, of which each speaks of held words alone
-unfoldable pub ran : Data → (ℕ → Option Ins) → (ℕ → Bool) → ℕ → Situation → Option Situation
-ran d code held zero s = Some s
-ran d code held (suc n) s = option_and_then (ran d code held n) (moved_by d held s (code s.state.pc))
+-- the place is that of one of so many words from an address on
+pub record IsAmong (from words place : ℕ) : Type 0 where
+  pub k : ℕ
+  pub few : k < words
+  pub at : place ≡ from + 4 * k
+
+-- so many instructions lead from one situation to another: each is the one at the pc, stands among so many words from an address on, and speaks of
+-- held words alone
+abbrev pub Path : Data → (ℕ → Option Ins) → (ℕ → Bool) → ℕ → ℕ → ℕ → Situation → Situation → Type 0
+Path d code held from words zero s t = s ≡ t
+Path d code held from words (suc n) s t = IsAmong from words s.state.pc × ((u : Situation) × (moved_by d held s (code s.state.pc) ≡ Some u) × Path d code held from words n u t)
+
+-- A stretch of so many words that begins at the pc is run by so many instructions: the first is that of its first word, and each of the others is that
+-- of a later one, so that no place on the way begins an item. (`count` may be less than `words`, where some are jumped over.)
+pub record RunsStretch (d : Data) (code : ℕ → Option Ins) (held : ℕ → Bool) (words count : ℕ) (s t : Situation) : Type 0 where
+  pub rest : ℕ
+  pub counts : count ≡ suc rest
+  pub first : Situation
+  pub begins : moved_by d held s (code s.state.pc) ≡ Some first
+  pub path : Path d code held (s.state.pc + 4) (words - 1) rest first t
 
 -- the instruction of a word that names no function and no entry, the word `at` of its function
 abbrev pub local_ins : ℕ → PostedIns → Option Ins
@@ -127,36 +144,38 @@ with_caller word b saved m = written (restored word b 0 saved (written m registe
 
 -- a prologue makes a frame at sp and leaves s0 at its base
 abbrev pub RunsPrologue : Type 0
-RunsPrologue = (d : Data) (code : ℕ → Option Ins) (held : ℕ → Bool) (function : ProgramFunction) (s : Situation) (at : ℕ) → HasFrame function → HasCode code s.state.pc at (prologue_ins function.frame_bytes (saved_of function)) → IsBase s.state.lo function.frame_bytes (register s.state registers.Sp) → HoldsFrame held function.frame_bytes (register s.state registers.Sp) → IsStretch s.state.pc (4 + length (saved_of function)) → ran d code held (4 + length (saved_of function)) s ≡ Some (record {
+RunsPrologue = (d : Data) (code : ℕ → Option Ins) (held : ℕ → Bool) (function : ProgramFunction) (s : Situation) (at : ℕ) → HasFrame function → HasCode code s.state.pc at (prologue_ins function.frame_bytes (saved_of function)) → IsBase s.state.lo function.frame_bytes (register s.state registers.Sp) → HoldsFrame held function.frame_bytes (register s.state registers.Sp) → IsStretch s.state.pc (4 + length (saved_of function)) → RunsStretch d code held (4 + length (saved_of function)) (4 + length (saved_of function)) s (record {
   state = at_place (s.state.pc + 4 * (4 + length (saved_of function))) (written (written s.state registers.Sp (register s.state registers.Sp - function.frame_bytes)) registers.S0 (register s.state registers.Sp));
   word = with_frame s.state (register s.state registers.Sp) (saved_of function) s.word;
 })
 
 -- an epilogue as written gives the caller's registers, frees the frame, whose base is b, and returns
 abbrev pub RunsEpilogue : Type 0
-RunsEpilogue = (d : Data) (code : ℕ → Option Ins) (held : ℕ → Bool) (function : ProgramFunction) (s : Situation) (at b : ℕ) → AreWords s.word → HasFrame function → HasCode code s.state.pc at (epilogue_ins function.frame_bytes (saved_of function)) → IsBase s.state.lo function.frame_bytes b → HoldsFrame held function.frame_bytes b → register s.state registers.Sp ≡ b - function.frame_bytes → IsReturn (s.word (return_word b)) → IsStretch s.state.pc (4 + length (saved_of function)) → ran d code held (4 + length (saved_of function)) s ≡ Some (record {
+RunsEpilogue = (d : Data) (code : ℕ → Option Ins) (held : ℕ → Bool) (function : ProgramFunction) (s : Situation) (lo at b : ℕ) → AreWords s.word → HasFrame function → HasCode code s.state.pc at (epilogue_ins function.frame_bytes (saved_of function)) → IsBase lo function.frame_bytes b → HoldsFrame held function.frame_bytes b → register s.state registers.Sp ≡ b - function.frame_bytes → IsReturn (s.word (return_word b)) → IsStretch s.state.pc (4 + length (saved_of function)) → RunsStretch d code held (4 + length (saved_of function)) (4 + length (saved_of function)) s (record {
   state = at_place (s.word (return_word b)) (written (with_caller s.word b (saved_of function) s.state) registers.Sp b);
   word = s.word;
 })
 
--- a pure copy gives the caller's registers from the frame whose base is s0, leaves sp, changes no word, and returns; tp has the base
+-- a pure copy gives the caller's registers from the frame whose base is s0, on whichever stack it lies, leaves sp, changes no word, and returns;
+-- tp has the base
 abbrev pub RunsPureCopy : Type 0
-RunsPureCopy = (d : Data) (code : ℕ → Option Ins) (held : ℕ → Bool) (function : ProgramFunction) (s : Situation) (at : ℕ) → AreWords s.word → HasFrame function → HasCode code s.state.pc at (pure_copy_ins (saved_of function)) → IsBase s.state.lo function.frame_bytes (register s.state registers.S0) → HoldsFrame held function.frame_bytes (register s.state registers.S0) → IsReturn (s.word (return_word (register s.state registers.S0))) → IsStretch s.state.pc (4 + length (saved_of function)) → ran d code held (4 + length (saved_of function)) s ≡ Some (record {
+RunsPureCopy = (d : Data) (code : ℕ → Option Ins) (held : ℕ → Bool) (function : ProgramFunction) (s : Situation) (lo at : ℕ) → AreWords s.word → HasFrame function → HasCode code s.state.pc at (pure_copy_ins (saved_of function)) → IsBase lo function.frame_bytes (register s.state registers.S0) → HoldsFrame held function.frame_bytes (register s.state registers.S0) → IsReturn (s.word (return_word (register s.state registers.S0))) → IsStretch s.state.pc (4 + length (saved_of function)) → RunsStretch d code held (4 + length (saved_of function)) (4 + length (saved_of function)) s (record {
   state = at_place (s.word (return_word (register s.state registers.S0))) (with_caller s.word (register s.state registers.S0) (saved_of function) (written s.state registers.Tp (register s.state registers.S0)));
   word = s.word;
 })
 
--- an augmented epilogue gives the same registers. Exactly where sp is below the base and the base is at most gp, it sets sp to the base and
--- changes no word; else it stores 0 to the return word, changes no other word, and leaves sp
+-- an augmented epilogue gives the same registers, from a frame on whichever stack. Exactly where sp is below the base and the base is at most gp, it
+-- sets sp to the base and changes no word; else it stores 0 to the return word, changes no other word, and leaves sp. It has nine words beside those
+-- that load saved registers, of which at most seven are run.
 abbrev pub RunsAugmented : Type 0
-RunsAugmented = (d : Data) (code : ℕ → Option Ins) (held : ℕ → Bool) (function : ProgramFunction) (s : Situation) (at : ℕ) → AreWords s.word → HasFrame function → HasCode code s.state.pc at (augmented_ins at (saved_of function)) → IsBase s.state.lo function.frame_bytes (register s.state registers.S0) → HoldsFrame held function.frame_bytes (register s.state registers.S0) → IsReturn (s.word (return_word (register s.state registers.S0))) → IsStretch s.state.pc (9 + length (saved_of function)) → (register s.state registers.Sp < register s.state registers.S0 → register s.state registers.S0 ≤ register s.state registers.Gp → ran d code held (7 + length (saved_of function)) s ≡ Some (record {
+RunsAugmented = (d : Data) (code : ℕ → Option Ins) (held : ℕ → Bool) (function : ProgramFunction) (s : Situation) (lo at : ℕ) → AreWords s.word → HasFrame function → HasCode code s.state.pc at (augmented_ins at (saved_of function)) → IsBase lo function.frame_bytes (register s.state registers.S0) → HoldsFrame held function.frame_bytes (register s.state registers.S0) → IsReturn (s.word (return_word (register s.state registers.S0))) → IsStretch s.state.pc (9 + length (saved_of function)) → (register s.state registers.Sp < register s.state registers.S0 → register s.state registers.S0 ≤ register s.state registers.Gp → RunsStretch d code held (9 + length (saved_of function)) (7 + length (saved_of function)) s (record {
   state = at_place (s.word (return_word (register s.state registers.S0))) (written (with_caller s.word (register s.state registers.S0) (saved_of function) (written s.state registers.Tp (register s.state registers.S0))) registers.Sp (register s.state registers.S0));
   word = s.word;
-})) × ((register s.state registers.S0 ≤ register s.state registers.Sp) ⊎ (register s.state registers.Gp < register s.state registers.S0) → (count : ℕ) × (ran d code held count s ≡ Some (record {
+})) × ((register s.state registers.S0 ≤ register s.state registers.Sp) ⊎ (register s.state registers.Gp < register s.state registers.S0) → (count : ℕ) × (count ≤ 7 + length (saved_of function)) × RunsStretch d code held (9 + length (saved_of function)) count s (record {
   state = at_place (s.word (return_word (register s.state registers.S0))) (with_caller s.word (register s.state registers.S0) (saved_of function) (written s.state registers.Tp (register s.state registers.S0)));
   word = stored (return_word (register s.state registers.S0)) 0 s.word;
-})))
+}))
 
 -- the words of `li` give its value
 abbrev pub RunsLi : Type 0
-RunsLi = (d : Data) (code : ℕ → Option Ins) (held : ℕ → Bool) (s : Situation) (at : ℕ) (rd : Reg) (value : ℤ) → HasRegisters s.state → IsWordValue value → HasCode code s.state.pc at (li_ins rd value) → IsStretch s.state.pc (length (li_ins rd value)) → ran d code held (length (li_ins rd value)) s ≡ Some (record { state = at_place (s.state.pc + 4 * length (li_ins rd value)) (written s.state rd (word_of value)); word = s.word })
+RunsLi = (d : Data) (code : ℕ → Option Ins) (held : ℕ → Bool) (s : Situation) (at : ℕ) (rd : Reg) (value : ℤ) → HasRegisters s.state → IsWordValue value → HasCode code s.state.pc at (li_ins rd value) → IsStretch s.state.pc (length (li_ins rd value)) → RunsStretch d code held (length (li_ins rd value)) (length (li_ins rd value)) s (record { state = at_place (s.state.pc + 4 * length (li_ins rd value)) (written s.state rd (word_of value)); word = s.word })

@@ -2,10 +2,10 @@
 ghost use Rattle.std.specs.Prelude.{◌≡◌, ◌≢◌, ◌+◌, ◌<◌, ℕ};
 ghost use Rattle.st_rv.specs.Results.{access_size, extended};
 ghost use Rattle.st_step.specs.Moves.{written, at_place, bytes_of, goes_on, results, MayMove, Moves, Reads, Writes};
-ghost use Rattle.st_step.specs.Sorts.{word_at};
+ghost use Rattle.st_step.specs.Roles.{word_at};
 ghost use Rattle.st_step.specs.declared.machine.StepEnd.TheVariants.{Ran};
 ghost use Rattle.st_step.specs.Acts.{move_by};
-ghost use Rattle.st_words.specs.Steps.{Asks};
+ghost use Rattle.st_words.specs.Made.{Asked, StepMade};
 
 use crate::access::word_place;
 use crate::act::Act;
@@ -15,7 +15,7 @@ use crate::state::State;
 use st_base::reg::Reg;
 use st_rv::ins::Op;
 use st_rv::results::{access_size, extended};
-use st_words::board::{Board, Next};
+use st_words::board::{Board, NamesView};
 
 /// All bytes of a word.
 fn whole(word: u64) -> u64
@@ -77,24 +77,24 @@ impl State {
     }
 
     /// Loads the stack word at an address into a register, and goes on.
-    fn load_word<B: Board, N: Next>(&mut self, rd: Reg, address: u64, board: &mut B, w: u32)
-        requires serves { B.serves board.old w }
-        requires may { MayMove (λ s. Asks (B.says board.old w) (B.forward board.old) (B.moves board.old) N.after (B.view board.old w) s) (word_at address (λ place. Reads place (λ n. results self.old rd (bytes_of n 0 8)))) }
-        ensures moved { Moves (B.says board.old w) (B.did board.old w) (N.after (B.view board.old w)) (λ b. B.view b w) board.old self.old (word_at address (λ place. Reads place (λ n. results self.old rd (bytes_of n 0 8)))) Ran self.new board.new }
-        ensures serves { B.serves board.new w }
-        ensures others { (other : ℕ) → other ≢ w → B.serves board.old other → B.serves board.new other × (B.view board.new other ≡ B.view board.old other) }
+    fn load_word<B: Board, N: NamesView>(&mut self, rd: Reg, address: u64, board: &mut B, w: u32)
+        requires may { MayMove (λ s. Asked B.view B.serves B.says B.forward B.moves N.after board.old w s) (word_at address (λ place. Reads place (λ n. results self.old rd (bytes_of n 0 8)))) }
+        ensures moved { Moves (λ s a b. StepMade B.view B.serves B.says B.did N.after board.old w s a b) board.old self.old (word_at address (λ place. Reads place (λ n. results self.old rd (bytes_of n 0 8)))) Ran self.new board.new }
     {
         let word = board.stack_load::<N>(w, word_place(address));
         self.put(rd, whole(word));
     }
 
     /// Stores the stack word at an address, and goes on.
-    fn store_word<B: Board, N: Next>(&mut self, address: u64, value: u64, board: &mut B, w: u32)
-        requires serves { B.serves board.old w }
-        requires may { MayMove (λ s. Asks (B.says board.old w) (B.forward board.old) (B.moves board.old) N.after (B.view board.old w) s) (word_at address (λ place. Writes place value (goes_on self.old))) }
-        ensures moved { Moves (B.says board.old w) (B.did board.old w) (N.after (B.view board.old w)) (λ b. B.view b w) board.old self.old (word_at address (λ place. Writes place value (goes_on self.old))) Ran self.new board.new }
-        ensures serves { B.serves board.new w }
-        ensures others { (other : ℕ) → other ≢ w → B.serves board.old other → B.serves board.new other × (B.view board.new other ≡ B.view board.old other) }
+    fn store_word<B: Board, N: NamesView>(
+        &mut self,
+        address: u64,
+        value: u64,
+        board: &mut B,
+        w: u32,
+    )
+        requires may { MayMove (λ s. Asked B.view B.serves B.says B.forward B.moves N.after board.old w s) (word_at address (λ place. Writes place value (goes_on self.old))) }
+        ensures moved { Moves (λ s a b. StepMade B.view B.serves B.says B.did N.after board.old w s a b) board.old self.old (word_at address (λ place. Writes place value (goes_on self.old))) Ran self.new board.new }
     {
         let next = self.pc.wrapping_add(4);
         board.stack_store::<N>(w, word_place(address), value);
@@ -102,17 +102,14 @@ impl State {
     }
 
     /// Carries out an act, with at most one step of the board.
-    pub(crate) fn carry_out<B: Board, N: Next>(
+    pub(crate) fn carry_out<B: Board, N: NamesView>(
         &mut self,
         act: Act,
         board: &mut B,
         w: u32,
     ) -> StepEnd
-        requires serves { B.serves board.old w }
-        requires may { MayMove (λ s. Asks (B.says board.old w) (B.forward board.old) (B.moves board.old) N.after (B.view board.old w) s) (move_by self.old act) }
-        ensures moved { Moves (B.says board.old w) (B.did board.old w) (N.after (B.view board.old w)) (λ b. B.view b w) board.old self.old (move_by self.old act) result self.new board.new }
-        ensures serves { B.serves board.new w }
-        ensures others { (other : ℕ) → other ≢ w → B.serves board.old other → B.serves board.new other × (B.view board.new other ≡ B.view board.old other) }
+        requires may { MayMove (λ s. Asked B.view B.serves B.says B.forward B.moves N.after board.old w s) (move_by self.old act) }
+        ensures moved { Moves (λ s a b. StepMade B.view B.serves B.says B.did N.after board.old w s a b) board.old self.old (move_by self.old act) result self.new board.new }
     {
         match act {
             Act::Result { rd, value } => self.put(rd, value),

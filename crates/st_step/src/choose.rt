@@ -6,13 +6,13 @@ ghost use Rattle.st_model.specs.Memory.{data_of};
 ghost use Rattle.st_step.specs.declared.state.State.{State};
 ghost use Rattle.st_step.specs.Moves.{Marks, Writes, address_of, from_pc, goes_on, register, results, makes_frame, frame_of, lacks_room, immediate_move, upper_move, stack_load, data_load, is_mark, word_store, short_store, stack_store, store_move, indirect_move, jump_move, move_of, in_one_word};
 ghost use Rattle.st_step.specs.Acts.{move_by, IsBounded};
-ghost use Rattle.st_step.specs.Sorts.{branch_by, branched, frame_move, has_result, immediate_by, register_by, sorted_move, word_at, word_load};
+ghost use Rattle.st_step.specs.Roles.{branch_by, branched, frame_move, has_result, immediate_by, register_by, role_move, word_at, word_load};
 
 use crate::access::{in_one_word, is_aligned, is_mark, is_stack, makes_frame, place_of};
 use crate::act::Act;
 use crate::bytes::with_bytes;
+use crate::decoded::{Decoded, Role};
 use crate::machine::StepEnd;
-use crate::sort::{Sort, Sorted};
 use crate::state::State;
 use st_base::reg::Reg;
 use st_base::thread::TrapKind;
@@ -265,53 +265,53 @@ fn jump_act(m: &State, i: &Ins) -> Act
 
 // ---- all of them
 
-/// What an instruction of a sort does.
-#[tactic(auto, unfolding(crate::specs::Sorts::sorted_move))]
-fn sorted_act(m: &State, sort: Sort, i: &Ins, rodata: &[u8], input: &[u8]) -> Act
+/// What an instruction of a role does.
+#[tactic(auto, unfolding(crate::specs::Roles::role_move))]
+fn role_act(m: &State, role: Role, i: &Ins, rodata: &[u8], input: &[u8]) -> Act
     requires bounded { IsBounded i.now }
-    requires computed { has_result sort i.now ≡ true }
-    ensures { move_by m.now result ≡ sorted_move sort (data_of rodata.now input.now) m.now i.now }
+    requires computed { has_result role i.now ≡ true }
+    ensures { move_by m.now result ≡ role_move role (data_of rodata.now input.now) m.now i.now }
 {
-    match sort {
-        Sort::Sum => register_by(m, i, Op::Add),
-        Sort::Difference => register_by(m, i, Op::Sub),
-        Sort::Product => register_by(m, i, Op::Mul),
-        Sort::And => register_by(m, i, Op::And),
-        Sort::Or => register_by(m, i, Op::Or),
-        Sort::Xor => register_by(m, i, Op::Xor),
-        Sort::SumImmediate => immediate_by(m, i, Op::Addi),
-        Sort::AndImmediate => immediate_by(m, i, Op::Andi),
-        Sort::XorImmediate => immediate_by(m, i, Op::Xori),
-        Sort::LeftShift => immediate_by(m, i, Op::Slli),
-        Sort::RightShift => immediate_by(m, i, Op::Srli),
-        Sort::LessImmediate => immediate_by(m, i, Op::Sltiu),
-        Sort::Frame => frame_act(m, i),
-        Sort::Register => register_by(m, i, i.op),
-        Sort::Immediate => immediate_act(m, i),
-        Sort::Upper => upper_act(i),
-        Sort::WordLoad => word_load(m, i),
-        Sort::StackLoad => stack_load(i, m.address_of(i)),
-        Sort::DataLoad => data_load(i, rodata, input, m.address_of(i)),
-        Sort::WordStore => plain_store(m, i),
-        Sort::Mark => mark(m, i),
-        Sort::Store => store_act(m, i),
-        Sort::Equal => branch_by(m, i, Op::Beq),
-        Sort::Unequal => branch_by(m, i, Op::Bne),
-        Sort::Less => branch_by(m, i, Op::Blt),
-        Sort::NotLess => branch_by(m, i, Op::Bge),
-        Sort::LessUnsigned => branch_by(m, i, Op::Bltu),
-        Sort::NotLessUnsigned => branch_by(m, i, Op::Bgeu),
-        Sort::Branch => branch_by(m, i, i.op),
-        Sort::Jump => jump_act(m, i),
-        Sort::IndirectJump => indirect_act(i, m.address_of(i)),
-        Sort::Break => Act::Stop(StepEnd::Trap(TrapKind::Abort)),
+    match role {
+        Role::Sum => register_by(m, i, Op::Add),
+        Role::Difference => register_by(m, i, Op::Sub),
+        Role::Product => register_by(m, i, Op::Mul),
+        Role::And => register_by(m, i, Op::And),
+        Role::Or => register_by(m, i, Op::Or),
+        Role::Xor => register_by(m, i, Op::Xor),
+        Role::SumImmediate => immediate_by(m, i, Op::Addi),
+        Role::AndImmediate => immediate_by(m, i, Op::Andi),
+        Role::XorImmediate => immediate_by(m, i, Op::Xori),
+        Role::LeftShift => immediate_by(m, i, Op::Slli),
+        Role::RightShift => immediate_by(m, i, Op::Srli),
+        Role::LessImmediate => immediate_by(m, i, Op::Sltiu),
+        Role::Frame => frame_act(m, i),
+        Role::Register => register_by(m, i, i.op),
+        Role::Immediate => immediate_act(m, i),
+        Role::Upper => upper_act(i),
+        Role::WordLoad => word_load(m, i),
+        Role::StackLoad => stack_load(i, m.address_of(i)),
+        Role::DataLoad => data_load(i, rodata, input, m.address_of(i)),
+        Role::WordStore => plain_store(m, i),
+        Role::Mark => mark(m, i),
+        Role::Store => store_act(m, i),
+        Role::Equal => branch_by(m, i, Op::Beq),
+        Role::Unequal => branch_by(m, i, Op::Bne),
+        Role::Less => branch_by(m, i, Op::Blt),
+        Role::NotLess => branch_by(m, i, Op::Bge),
+        Role::LessUnsigned => branch_by(m, i, Op::Bltu),
+        Role::NotLessUnsigned => branch_by(m, i, Op::Bgeu),
+        Role::Branch => branch_by(m, i, i.op),
+        Role::Jump => jump_act(m, i),
+        Role::IndirectJump => indirect_act(i, m.address_of(i)),
+        Role::Break => Act::Stop(StepEnd::Trap(TrapKind::Abort)),
     }
 }
 
 /// What an instruction does on the machine as it stands, with these read-only data and this input.
-pub(crate) fn act_of(m: &State, i: &Sorted, rodata: &[u8], input: &[u8]) -> Act
+pub(crate) fn act_of(m: &State, i: &Decoded, rodata: &[u8], input: &[u8]) -> Act
     requires { IsBounded i.now.ins }
     ensures { move_by m.now result ≡ move_of (data_of rodata.now input.now) m.now i.now.ins }
 {
-    sorted_act(m, i.sort, &i.ins, rodata, input)
+    role_act(m, i.role, &i.ins, rodata, input)
 }

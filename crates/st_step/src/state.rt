@@ -1,7 +1,7 @@
 //! The state of the machine as plain data.
 
 /// 32 registers, a pc, the two ends of a stack, and at most one store that is half done.
-#[derive(Drop)]
+#[derive(Clone, Copy)]
 pub struct State {
     /// What x0 to x31 hold.
     pub registers: [u64; 32],

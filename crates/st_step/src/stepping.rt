@@ -5,15 +5,15 @@ ghost use Rattle.st_rv.specs.declared.ins.Ins.{Ins};
 ghost use Rattle.st_model.specs.Memory.{data_of};
 ghost use Rattle.st_step.specs.Moves.{is_entry, Fetches, MayMove, MayStep, Moves, Stepped, move_of};
 ghost use Rattle.st_step.specs.Acts.{IsBounded};
-ghost use Rattle.st_words.specs.Steps.{Asks};
+ghost use Rattle.st_words.specs.Made.{Asked, StepMade};
 
 use crate::choose::act_of;
+use crate::decoded::Decoded;
 use crate::machine::{Machine, StepEnd};
-use crate::sort::Sorted;
 use st_base::image::Image;
 use st_rv::code::decode;
 use st_rv::ins::Ins;
-use st_words::board::{Board, Next};
+use st_words::board::{Board, NamesView};
 
 /// Where the code begins.
 const CODE_BASE: u32 = 0x1_0000;
@@ -37,44 +37,38 @@ fn fetched(image: &Image, pc: u32) -> Option<Ins>
 
 impl Machine {
     /// One instruction of the image's code, or half of a store of less than eight bytes; it takes no memory.
-    pub fn step<B: Board, N: Next>(
+    pub fn step<B: Board, N: NamesView>(
         &mut self,
         image: &Image,
         input: &[u8],
         board: &mut B,
         w: u32,
     ) -> StepEnd
-        requires serves { B.serves board.old w }
-        requires may { MayStep (λ s. Asks (B.says board.old w) (B.forward board.old) (B.moves board.old) N.after (B.view board.old w) s) image.now (data_of image.now.rodata input.now) self.old.state }
-        ensures step { Stepped (B.says board.old w) (B.did board.old w) (N.after (B.view board.old w)) (λ b. B.view b w) board.old self.old.state image.now (data_of image.now.rodata input.now) result self.new.state board.new }
-        ensures serves { B.serves board.new w }
-        ensures others { (other : ℕ) → other ≢ w → B.serves board.old other → B.serves board.new other × (B.view board.new other ≡ B.view board.old other) }
+        requires may { MayStep (λ s. Asked B.view B.serves B.says B.forward B.moves N.after board.old w s) image.now (data_of image.now.rodata input.now) self.old }
+        ensures step { Stepped (λ s a b. StepMade B.view B.serves B.says B.did N.after board.old w s a b) board.old self.old image.now (data_of image.now.rodata input.now) result self.new board.new }
     {
-        let pc = self.state.pc;
+        let pc = self.pc();
         if is_entry(pc) {
             return StepEnd::Entry(pc);
         }
         let Some(i) = fetched(image, pc) else {
             unreachable!()
         };
-        self.execute::<B, N>(&Sorted::of(i), image.rodata.as_slice(), input, board, w)
+        self.execute::<B, N>(&Decoded::of(i), image.rodata.as_slice(), input, board, w)
     }
 
-    /// One instruction, or half of a store of less than eight bytes, that the caller has decoded and sorted; it takes no memory.
-    pub fn execute<B: Board, N: Next>(
+    /// One instruction, or half of a store of less than eight bytes, that the caller has decoded; it takes no memory.
+    pub fn execute<B: Board, N: NamesView>(
         &mut self,
-        i: &Sorted,
+        i: &Decoded,
         rodata: &[u8],
         input: &[u8],
         board: &mut B,
         w: u32,
     ) -> StepEnd
-        requires serves { B.serves board.old w }
         requires bounded { IsBounded i.now.ins }
-        requires may { MayMove (λ s. Asks (B.says board.old w) (B.forward board.old) (B.moves board.old) N.after (B.view board.old w) s) (move_of (data_of rodata.now input.now) self.old.state i.now.ins) }
-        ensures moved { Moves (B.says board.old w) (B.did board.old w) (N.after (B.view board.old w)) (λ b. B.view b w) board.old self.old.state (move_of (data_of rodata.now input.now) self.old.state i.now.ins) result self.new.state board.new }
-        ensures serves { B.serves board.new w }
-        ensures others { (other : ℕ) → other ≢ w → B.serves board.old other → B.serves board.new other × (B.view board.new other ≡ B.view board.old other) }
+        requires may { MayMove (λ s. Asked B.view B.serves B.says B.forward B.moves N.after board.old w s) (move_of (data_of rodata.now input.now) self.old i.now.ins) }
+        ensures moved { Moves (λ s a b. StepMade B.view B.serves B.says B.did N.after board.old w s a b) board.old self.old (move_of (data_of rodata.now input.now) self.old i.now.ins) result self.new board.new }
     {
         let act = act_of(&self.state, i, rodata, input);
         self.state.carry_out::<B, N>(act, board, w)
@@ -82,7 +76,7 @@ impl Machine {
 
     /// Whether a store of less than eight bytes was begun and not yet made.
     pub fn is_half_done(&self) -> bool
-        ensures { result ≡ is_some self.now.state.half }
+        ensures { result ≡ is_some self.now.half }
     {
         self.state.half.is_some()
     }

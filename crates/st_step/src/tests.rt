@@ -4,8 +4,8 @@ ghost use Rattle.st_step.specs.Acts.{IsBounded};
 use crate::act::Act;
 use crate::bytes::{bytes_of, with_bytes};
 use crate::choose::act_of;
-use crate::machine::StepEnd;
-use crate::sort::Sorted;
+use crate::decoded::Decoded;
+use crate::machine::{Machine, StepEnd};
 use crate::state::State;
 use crate::stepping::is_entry;
 use st_base::reg::Reg;
@@ -19,19 +19,27 @@ const RODATA: [u8; 4] = [0x11, 0x22, 0x33, 0x84];
 
 const INPUT: [u8; 3] = [0xff, 0x7f, 0x01];
 
-fn state() -> State {
-    State {
+const HALF: u64 = 0x1122_3344_5566_7788;
+
+/// A machine 48 bytes above the low end of its stack, with its frame's base at 0x100, where a store may be half done.
+fn state(half: Option<u64>) -> State {
+    let mut m = State {
         registers: [0; 32],
         pc: 0x1_0040,
         lo: LOW_END,
         hi: LOW_END + 0x1000,
-        half: None,
-    }
-}
-
-fn with(r: Reg, v: u64) -> State {
-    let mut m = state();
-    m.write(r, v);
+        half,
+    };
+    m.write(Reg::Ra, 0x1_0101);
+    m.write(Reg::Sp, LOW_END + 48);
+    m.write(Reg::Tp, LOW_END + 0x100);
+    m.write(Reg::S0, LOW_END + 0x100);
+    m.write(Reg::A0, 0xaabb_ccdd);
+    m.write(Reg::A1, 7);
+    m.write(Reg::A2, 5);
+    m.write(Reg::A3, 0x2000_0000);
+    m.write(Reg::A4, 0x4000_0000);
+    m.write(Reg::A5, 0x1_0000_0000);
     m
 }
 
@@ -47,238 +55,324 @@ fn ins(op: Op, rd: Reg, rs1: Reg, rs2: Reg, imm: i32) -> Ins
     }
 }
 
-fn act(m: &State, op: Op, rd: Reg, rs1: Reg, rs2: Reg, imm: i32) -> Act {
-    let i = ins(op, rd, rs1, rs2, imm);
-    act_of(m, &Sorted::of(i), &RODATA, &INPUT)
+fn result(rd: Reg, value: u64) -> Act {
+    Act::Result { rd, value }
+}
+
+fn trap(kind: TrapKind) -> Act {
+    Act::Stop(StepEnd::Trap(kind))
 }
 
 #[test]
-fn results_go_into_a_register_but_zero(rt: HostRuntime) {
-    let mut m = with(Reg::A1, 7);
-    m.write(Reg::A2, 5);
-    assert_eq!(rt;
-        act(&m, Op::Sub, Reg::A0, Reg::A1, Reg::A2, 0),
-        Act::Result {
-            rd: Reg::A0,
-            value: 2
-        }
-    );
-    assert_eq!(rt;
-        act(&m, Op::Addi, Reg::A0, Reg::A1, Reg::Zero, -8),
-        Act::Result {
-            rd: Reg::A0,
-            value: u64::MAX
-        }
-    );
-    assert_eq!(rt;
-        act(&m, Op::Lui, Reg::A0, Reg::Zero, Reg::Zero, 0x80000),
-        Act::Result {
-            rd: Reg::A0,
-            value: 0xffff_ffff_8000_0000
-        }
-    );
-    m.put(Reg::A0, 2);
-    assert_eq!(rt; m.read(Reg::A0), 2);
-    assert_eq!(rt; m.pc, 0x1_0044);
-    m.put(Reg::Zero, 9);
-    assert_eq!(rt; m.read(Reg::Zero), 0);
-    assert_eq!(rt; m.pc, 0x1_0048);
+fn an_act_is_chosen_by_the_instruction_and_the_machine(rt: HostRuntime) {
+    for (half, op, rd, rs1, rs2, imm, act) in [
+        (
+            None,
+            Op::Sub,
+            Reg::A0,
+            Reg::A1,
+            Reg::A2,
+            0,
+            result(Reg::A0, 2),
+        ),
+        (
+            None,
+            Op::Addi,
+            Reg::A0,
+            Reg::A1,
+            Reg::Zero,
+            -8,
+            result(Reg::A0, u64::MAX),
+        ),
+        (
+            None,
+            Op::Lui,
+            Reg::A0,
+            Reg::Zero,
+            Reg::Zero,
+            0x80000,
+            result(Reg::A0, 0xffff_ffff_8000_0000),
+        ),
+        (
+            None,
+            Op::Addi,
+            Reg::Sp,
+            Reg::Sp,
+            Reg::Zero,
+            -64,
+            Act::Stop(StepEnd::StackFull { frame: 64 }),
+        ),
+        (
+            None,
+            Op::Addi,
+            Reg::Sp,
+            Reg::Sp,
+            Reg::Zero,
+            -48,
+            result(Reg::Sp, LOW_END),
+        ),
+        (
+            None,
+            Op::Addi,
+            Reg::Sp,
+            Reg::Sp,
+            Reg::Zero,
+            64,
+            result(Reg::Sp, LOW_END + 112),
+        ),
+        (
+            None,
+            Op::Addi,
+            Reg::A0,
+            Reg::Sp,
+            Reg::Zero,
+            -64,
+            result(Reg::A0, LOW_END - 16),
+        ),
+        (
+            None,
+            Op::Lb,
+            Reg::A0,
+            Reg::S0,
+            Reg::Zero,
+            -13,
+            Act::Load {
+                op: Op::Lb,
+                rd: Reg::A0,
+                place: 30,
+                address: LOW_END + 0xf3,
+            },
+        ),
+        (None, Op::Lw, Reg::A0, Reg::S0, Reg::Zero, -10, Act::Outside),
+        (
+            None,
+            Op::Sd,
+            Reg::Zero,
+            Reg::S0,
+            Reg::A0,
+            8,
+            Act::StoreWord {
+                address: LOW_END + 0x108,
+                value: 0xaabb_ccdd,
+            },
+        ),
+        (
+            None,
+            Op::Sh,
+            Reg::Zero,
+            Reg::S0,
+            Reg::A0,
+            6,
+            Act::Fetch { place: 32 },
+        ),
+        (
+            Some(HALF),
+            Op::Sh,
+            Reg::Zero,
+            Reg::S0,
+            Reg::A0,
+            6,
+            Act::Store {
+                place: 32,
+                value: 0xccdd_3344_5566_7788,
+            },
+        ),
+        (
+            Some(HALF),
+            Op::Sb,
+            Reg::Zero,
+            Reg::S0,
+            Reg::A0,
+            2,
+            Act::Store {
+                place: 32,
+                value: 0x1122_3344_55dd_7788,
+            },
+        ),
+        (
+            None,
+            Op::Sd,
+            Reg::Zero,
+            Reg::Tp,
+            Reg::Zero,
+            -8,
+            Act::Mark { place: 31 },
+        ),
+        (
+            None,
+            Op::Sd,
+            Reg::Zero,
+            Reg::Tp,
+            Reg::A0,
+            -8,
+            Act::StoreWord {
+                address: LOW_END + 0xf8,
+                value: 0xaabb_ccdd,
+            },
+        ),
+        (None, Op::Sd, Reg::Zero, Reg::A0, Reg::A0, 0, Act::Outside),
+        (
+            None,
+            Op::Lw,
+            Reg::A0,
+            Reg::A3,
+            Reg::Zero,
+            0,
+            result(Reg::A0, 0xffff_ffff_8433_2211),
+        ),
+        (
+            None,
+            Op::Lb,
+            Reg::A0,
+            Reg::A4,
+            Reg::Zero,
+            0,
+            result(Reg::A0, u64::MAX),
+        ),
+        (
+            None,
+            Op::Lhu,
+            Reg::A0,
+            Reg::A4,
+            Reg::Zero,
+            0,
+            result(Reg::A0, 0x7fff),
+        ),
+        (
+            None,
+            Op::Lb,
+            Reg::A0,
+            Reg::A4,
+            Reg::Zero,
+            3,
+            trap(TrapKind::LoadRange),
+        ),
+        (
+            None,
+            Op::Lw,
+            Reg::A0,
+            Reg::A4,
+            Reg::Zero,
+            0,
+            trap(TrapKind::LoadRange),
+        ),
+        (
+            None,
+            Op::Lw,
+            Reg::A0,
+            Reg::A4,
+            Reg::Zero,
+            2,
+            trap(TrapKind::Misaligned),
+        ),
+        (
+            None,
+            Op::Bne,
+            Reg::Zero,
+            Reg::A1,
+            Reg::Zero,
+            -16,
+            Act::Go { pc: 0x1_0030 },
+        ),
+        (
+            None,
+            Op::Beq,
+            Reg::Zero,
+            Reg::A1,
+            Reg::Zero,
+            -16,
+            Act::Go { pc: 0x1_0044 },
+        ),
+        (
+            None,
+            Op::Jal,
+            Reg::Ra,
+            Reg::Zero,
+            Reg::Zero,
+            0x20,
+            Act::Link {
+                rd: Reg::Ra,
+                pc: 0x1_0060,
+            },
+        ),
+        (
+            None,
+            Op::Jalr,
+            Reg::Ra,
+            Reg::Ra,
+            Reg::Zero,
+            4,
+            Act::Link {
+                rd: Reg::Ra,
+                pc: 0x1_0104,
+            },
+        ),
+        (
+            None,
+            Op::Jalr,
+            Reg::Zero,
+            Reg::A5,
+            Reg::Zero,
+            0,
+            Act::Outside,
+        ),
+        (
+            None,
+            Op::Ebreak,
+            Reg::Zero,
+            Reg::Zero,
+            Reg::Zero,
+            0,
+            trap(TrapKind::Abort),
+        ),
+    ] {
+        let i = ins(op, rd, rs1, rs2, imm);
+        assert_eq!(rt; act_of(&state(half), &Decoded::of(i), &RODATA, &INPUT), act);
+    }
 }
 
 #[test]
-fn a_frame_below_the_low_end_is_refused(rt: HostRuntime) {
-    let m = with(Reg::Sp, LOW_END + 48);
-    assert_eq!(rt;
-        act(&m, Op::Addi, Reg::Sp, Reg::Sp, Reg::Zero, -64),
-        Act::Stop(StepEnd::StackFull { frame: 64 })
-    );
-    assert_eq!(rt;
-        act(&m, Op::Addi, Reg::Sp, Reg::Sp, Reg::Zero, -48),
-        Act::Result {
-            rd: Reg::Sp,
-            value: LOW_END
-        }
-    );
-    assert_eq!(rt;
-        act(&m, Op::Addi, Reg::Sp, Reg::Sp, Reg::Zero, 64),
-        Act::Result {
-            rd: Reg::Sp,
-            value: LOW_END + 112
-        }
-    );
-    assert_eq!(rt;
-        act(&m, Op::Addi, Reg::A0, Reg::Sp, Reg::Zero, -64),
-        Act::Result {
-            rd: Reg::A0,
-            value: LOW_END - 16
-        }
-    );
-}
-
-#[test]
-fn stack_loads_take_bytes_of_a_word(rt: HostRuntime) {
-    let m = with(Reg::S0, LOW_END + 0x100);
-    let load = act(&m, Op::Lb, Reg::A0, Reg::S0, Reg::Zero, -13);
-    assert_eq!(rt;
-        load,
-        Act::Load {
-            op: Op::Lb,
-            rd: Reg::A0,
-            place: 30,
-            address: LOW_END + 0xf3
-        }
-    );
-    assert_eq!(rt;
-        act(&m, Op::Lw, Reg::A0, Reg::S0, Reg::Zero, -10),
-        Act::Outside
-    );
+fn bytes_are_taken_of_a_word_and_put_into_it(rt: HostRuntime) {
     let word = 0xfedc_ba98_8654_3210;
-    assert_eq!(rt;
-        extended(Op::Lb, bytes_of(word, 3, 1)),
-        0xffff_ffff_ffff_ff86
-    );
-    assert_eq!(rt; extended(Op::Lbu, bytes_of(word, 7, 1)), 0xfe);
-    assert_eq!(rt;
-        extended(Op::Lw, bytes_of(word, 0, 4)),
-        0xffff_ffff_8654_3210
-    );
-    assert_eq!(rt; extended(Op::Lwu, bytes_of(word, 4, 4)), 0xfedc_ba98);
-    assert_eq!(rt; extended(Op::Ld, bytes_of(word, 0, 8)), word);
+    for (op, at, size, value) in [
+        (Op::Lb, 3, 1usize, 0xffff_ffff_ffff_ff86),
+        (Op::Lbu, 7, 1, 0xfe),
+        (Op::Lw, 0, 4, 0xffff_ffff_8654_3210),
+        (Op::Lwu, 4, 4, 0xfedc_ba98),
+        (Op::Ld, 0, 8, word),
+    ] {
+        if at < 8 && size <= 8 {
+            assert_eq!(rt; extended(op, bytes_of(word, at, size)), value);
+        }
+    }
+    assert_eq!(rt; with_bytes(HALF, 0, 4, 0xaabb_ccdd), 0x1122_3344_aabb_ccdd);
 }
 
 #[test]
-fn stores_take_one_step_or_two(rt: HostRuntime) {
-    let mut m = with(Reg::Sp, LOW_END + 0x100);
-    m.write(Reg::A0, 0xaabb_ccdd);
-    assert_eq!(rt;
-        act(&m, Op::Sd, Reg::Zero, Reg::Sp, Reg::A0, 8),
-        Act::StoreWord {
-            address: LOW_END + 0x108,
-            value: 0xaabb_ccdd
-        }
-    );
-    assert_eq!(rt;
-        act(&m, Op::Sh, Reg::Zero, Reg::Sp, Reg::A0, 6),
-        Act::Fetch { place: 32 }
-    );
-    m.half = Some(0x1122_3344_5566_7788);
-    assert_eq!(rt;
-        act(&m, Op::Sh, Reg::Zero, Reg::Sp, Reg::A0, 6),
-        Act::Store {
-            place: 32,
-            value: 0xccdd_3344_5566_7788
-        }
-    );
-    assert_eq!(rt;
-        act(&m, Op::Sb, Reg::Zero, Reg::Sp, Reg::A0, 2),
-        Act::Store {
-            place: 32,
-            value: 0x1122_3344_55dd_7788
-        }
-    );
-    assert_eq!(rt;
-        with_bytes(0x1122_3344_5566_7788, 0, 4, 0xaabb_ccdd),
-        0x1122_3344_aabb_ccdd
-    );
-    m.write(Reg::Tp, LOW_END + 0x100);
-    assert_eq!(rt;
-        act(&m, Op::Sd, Reg::Zero, Reg::Tp, Reg::Zero, -8),
-        Act::Mark { place: 31 }
-    );
-    assert_eq!(rt;
-        act(&m, Op::Sd, Reg::Zero, Reg::Tp, Reg::A0, -8),
-        Act::StoreWord {
-            address: LOW_END + 0xf8,
-            value: 0xaabb_ccdd
-        }
-    );
-    assert_eq!(rt;
-        act(&m, Op::Sd, Reg::Zero, Reg::A0, Reg::A0, 0),
-        Act::Outside
-    );
-}
-
-#[test]
-fn other_loads_see_the_data_and_the_input(rt: HostRuntime) {
-    let mut m = with(Reg::A1, 0x2000_0000);
-    m.write(Reg::A2, 0x4000_0000);
-    assert_eq!(rt;
-        act(&m, Op::Lw, Reg::A0, Reg::A1, Reg::Zero, 0),
-        Act::Result {
-            rd: Reg::A0,
-            value: 0xffff_ffff_8433_2211
-        }
-    );
-    assert_eq!(rt;
-        act(&m, Op::Lb, Reg::A0, Reg::A2, Reg::Zero, 0),
-        Act::Result {
-            rd: Reg::A0,
-            value: u64::MAX
-        }
-    );
-    assert_eq!(rt;
-        act(&m, Op::Lhu, Reg::A0, Reg::A2, Reg::Zero, 0),
-        Act::Result {
-            rd: Reg::A0,
-            value: 0x7fff
-        }
-    );
-    assert_eq!(rt;
-        act(&m, Op::Lb, Reg::A0, Reg::A2, Reg::Zero, 3),
-        Act::Stop(StepEnd::Trap(TrapKind::LoadRange))
-    );
-    assert_eq!(rt;
-        act(&m, Op::Lw, Reg::A0, Reg::A2, Reg::Zero, 0),
-        Act::Stop(StepEnd::Trap(TrapKind::LoadRange))
-    );
-    assert_eq!(rt;
-        act(&m, Op::Lw, Reg::A0, Reg::A2, Reg::Zero, 2),
-        Act::Stop(StepEnd::Trap(TrapKind::Misaligned))
-    );
-}
-
-#[test]
-fn jumps_go_both_ways(rt: HostRuntime) {
-    let mut m = with(Reg::A1, 7);
-    assert_eq!(rt;
-        act(&m, Op::Bne, Reg::Zero, Reg::A1, Reg::Zero, -16),
-        Act::Go { pc: 0x1_0030 }
-    );
-    assert_eq!(rt;
-        act(&m, Op::Beq, Reg::Zero, Reg::A1, Reg::Zero, -16),
-        Act::Go { pc: 0x1_0044 }
-    );
-    assert_eq!(rt;
-        act(&m, Op::Jal, Reg::Ra, Reg::Zero, Reg::Zero, 0x20),
-        Act::Link {
-            rd: Reg::Ra,
-            pc: 0x1_0060
-        }
-    );
-    m.write(Reg::Ra, 0x1_0101);
-    assert_eq!(rt;
-        act(&m, Op::Jalr, Reg::Ra, Reg::Ra, Reg::Zero, 4),
-        Act::Link {
-            rd: Reg::Ra,
-            pc: 0x1_0104
-        }
-    );
+fn a_machine_goes_on_and_keeps_zero(rt: HostRuntime) {
+    let mut m = state(Some(HALF));
+    m.put(Reg::A0, 2);
+    assert!(rt; m.read(Reg::A0) == 2 && m.pc == 0x1_0044 && m.half.is_none());
+    m.put(Reg::Zero, 9);
+    assert!(rt; m.read(Reg::Zero) == 0 && m.pc == 0x1_0048);
     m.link(Reg::Ra, 0x1_0104);
-    assert_eq!(rt; m.read(Reg::Ra), 0x1_0044);
-    assert_eq!(rt; m.pc, 0x1_0104);
-    m.write(Reg::Ra, 0x1_0000_0000);
-    assert_eq!(rt;
-        act(&m, Op::Jalr, Reg::Zero, Reg::Ra, Reg::Zero, 0),
-        Act::Outside
-    );
-    assert_eq!(rt;
-        act(&m, Op::Ebreak, Reg::Zero, Reg::Zero, Reg::Zero, 0),
-        Act::Stop(StepEnd::Trap(TrapKind::Abort))
-    );
+    assert!(rt; m.read(Reg::Ra) == 0x1_004c && m.pc == 0x1_0104);
+    let mut first = Machine::new(LOW_END, LOW_END + 64);
+    let second = first.copy();
+    first.set_reg(Reg::A0, 5);
+    assert!(rt; first.reg(Reg::A0) == 5 && second.reg(Reg::A0) == 0);
+    assert!(rt; second.low_end() == LOW_END && second.high_end() == LOW_END + 64);
 }
 
 #[test]
 fn entries_stand_below_the_code(rt: HostRuntime) {
-    assert!(rt; is_entry(0x10) && is_entry(0x90));
-    assert!(rt; !is_entry(0) && !is_entry(0x18) && !is_entry(0xa0));
+    for (pc, is) in [
+        (0x10, true),
+        (0x90, true),
+        (0, false),
+        (0x18, false),
+        (0xa0, false),
+    ] {
+        assert_eq!(rt; is_entry(pc), is);
+    }
 }

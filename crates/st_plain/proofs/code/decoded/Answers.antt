@@ -2,7 +2,7 @@ use Rattle.std.proofs.Common.{◌+◌, ◌∙◌, List, ap, drop, subst, sym}
 use Rattle.st_rv.specs.declared.ins.Ins.{Ins}
 use Rattle.std.proofs.Math.Logic.{∥∥₁_elim}
 use Rattle.st_plain.specs.Code.{instructions_of}
-use Rattle.st_plain.proofs.Decoding.{IsDecoded, with_sorted, decodes, must_decode, all_decoded}
+use Rattle.st_plain.proofs.Decoding.{IsDecoded, with_decoded, decodes, must_decode, all_decoded}
 use Rattle.st_plain.proofs.code.decoded.Goals as goal
 
 -- src/code.rt:37:13
@@ -13,7 +13,7 @@ unreachable-requires c = ∥∥₁_elim c.requires (λ x y. absurd x) (λ has. m
 pub loop-word-preserved : goal.loop-word-preserved
 loop-word-preserved c whole are =
     let made = c.in_ok-push.ensures in
-    let e = ap instructions_of made.items ∙ with_sorted c.loop-word.found.items c.of.result c.in-Some.instruction c.of.ensures in
+    let e = ap instructions_of made.items ∙ with_decoded c.loop-word.found.items c.of.result c.in-Some.instruction c.of.ensures in
     subst (λ (found : List Ins). IsDecoded found (drop (c.loop-word.word-index + 1) c.args.words.now) whole) (sym e) (decodes _ whole c.args.words.now c.loop-word.word-index c.decode.result c.in-Some.instruction c.loop-word-test.true c.decode.ensures.only c.in-Some.is (c.loop-word.invariant whole are))
 
 -- src/code.rt:30:1

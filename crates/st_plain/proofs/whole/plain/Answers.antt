@@ -18,13 +18,13 @@ loop-init c = record {
 pub serve-requires-clause-amid : goal.serve-requires-clause-amid
 serve-requires-clause-amid c = ∥∥₁_map c.requires.image (λ h.
     let d = data_of c.args.image.now.rodata c.args.input.now in
-    let x = at_entry h.0 c.args.image.now d c.args.limits.now c.loop.run c.loop.left c.loop.counter (ltb-true c.loop.run.machine.state.pc 0x10000 (sym c.is_at_entry.ensures ∙ c.if-is_at_entry.true)) (c.loop.invariant.stage h.0 h.1) in
+    let x = at_entry h.0 c.args.image.now d c.args.limits.now c.loop.run c.loop.left c.loop.counter (ltb-true c.loop.run.machine.pc 0x10000 (sym c.is_at_entry.ensures ∙ c.if-is_at_entry.true)) (c.loop.invariant.stage h.0 h.1) in
     (h.0, d, c.args.limits.now, x.drawn, x.s, x.turns, x.under))
 
 pub returns-in-Some-clause-end : goal.returns-in-Some-clause-end
 returns-in-Some-clause-end c = λ p pi.
     let d = data_of c.args.image.now.rodata c.args.input.now in
-    let x = at_entry p c.args.image.now d c.args.limits.now c.loop.run c.loop.left c.loop.counter (ltb-true c.loop.run.machine.state.pc 0x10000 (sym c.is_at_entry.ensures ∙ c.if-is_at_entry.true)) (c.loop.invariant.stage p pi) in
+    let x = at_entry p c.args.image.now d c.args.limits.now c.loop.run c.loop.left c.loop.counter (ltb-true c.loop.run.machine.pc 0x10000 (sym c.is_at_entry.ensures ∙ c.if-is_at_entry.true)) (c.loop.invariant.stage p pi) in
     let threads = c.serve.new.self.threads in
     item_ends p c.args.image.now d c.args.limits.now c.loop.run c.loop.left c.loop.counter threads.notes.items.items threads.out.items.items c.in-Some.ending c.into_end.result x
     (c.into_end.ensures.end, c.into_end.ensures.limit) (c.in-Some.ensures.over p d c.args.limits.now x.drawn x.s x.turns x.under)
@@ -33,7 +33,7 @@ pub returns-in-Some-clause-ended : goal.returns-in-Some-clause-ended
 returns-in-Some-clause-ended c = λ going.
     ∥∥₁_elim c.requires.image (λ x y. absurd x) (λ h.
     let d = data_of c.args.image.now.rodata c.args.input.now in
-    let x = at_entry h.0 c.args.image.now d c.args.limits.now c.loop.run c.loop.left c.loop.counter (ltb-true c.loop.run.machine.state.pc 0x10000 (sym c.is_at_entry.ensures ∙ c.if-is_at_entry.true)) (c.loop.invariant.stage h.0 h.1) in
+    let x = at_entry h.0 c.args.image.now d c.args.limits.now c.loop.run c.loop.left c.loop.counter (ltb-true c.loop.run.machine.pc 0x10000 (sym c.is_at_entry.ensures ∙ c.if-is_at_entry.true)) (c.loop.invariant.stage h.0 h.1) in
     let threads = c.serve.new.self.threads in
     never_going h.0 d c.args.limits.now x.drawn threads.notes.items.items threads.out.items.items x.s c.in-Some.ending c.into_end.result
     (c.into_end.ensures.end, c.into_end.ensures.limit) (c.in-Some.ensures.over h.0 d c.args.limits.now x.drawn x.s x.turns x.under) going)
@@ -43,13 +43,13 @@ loop-preserved-then-is_at_entry c = record {
   board = c.serve.ensures.board;
   stage = λ p pi.
       let d = data_of c.args.image.now.rodata c.args.input.now in
-      let x = at_entry p c.args.image.now d c.args.limits.now c.loop.run c.loop.left c.loop.counter (ltb-true c.loop.run.machine.state.pc 0x10000 (sym c.is_at_entry.ensures ∙ c.if-is_at_entry.true)) (c.loop.invariant.stage p pi) in
+      let x = at_entry p c.args.image.now d c.args.limits.now c.loop.run c.loop.left c.loop.counter (ltb-true c.loop.run.machine.pc 0x10000 (sym c.is_at_entry.ensures ∙ c.if-is_at_entry.true)) (c.loop.invariant.stage p pi) in
       next_stage p c.args.image.now d c.args.limits.now c.loop.run c.serve.new.self c.loop.left c.loop.counter x (c.serve.ensures.going c.in_default.is p d c.args.limits.now x.drawn x.s x.turns x.under);
 }
 
 pub begun-begun-requires-clause-inside : goal.begun-begun-requires-clause-inside
 begun-begun-requires-clause-inside c = ∥∥₁_elim c.requires.image le_prop (λ h.
-    begins_inside h.0 c.args.image.now (data_of c.args.image.now.rodata c.args.input.now) c.args.limits.now c.loop.run c.loop.left c.loop.counter (ltb-false c.loop.run.machine.state.pc 0x10000 (sym c.is_at_entry.ensures ∙ c.if-is_at_entry.false)) (c.loop.invariant.stage h.0 h.1))
+    begins_inside h.0 c.args.image.now (data_of c.args.image.now.rodata c.args.input.now) c.args.limits.now c.loop.run c.loop.left c.loop.counter (ltb-false c.loop.run.machine.pc 0x10000 (sym c.is_at_entry.ensures ∙ c.if-is_at_entry.false)) (c.loop.invariant.stage h.0 h.1))
 
 pub returns-then-left-begun-clause-end : goal.returns-then-left-begun-clause-end
 returns-then-left-begun-clause-end c = λ p pi.

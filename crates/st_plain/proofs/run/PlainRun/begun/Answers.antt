@@ -13,9 +13,9 @@ read begins table pc said at b same is to there =
 
 pub returns-clause-ready : goal.returns-clause-ready
 returns-clause-ready c = λ p d limits s ready.
-    c.from.ensures ∙ ap from_bool (read c.args.image.now.begins c.as_slice.result.now c.args.self.now.machine.state.pc c.pc.result c.word_index.result true c.as_slice.ensures c.word_index.ensures c.pc.ensures (begins_ready p c.args.image.now d limits c.args.self.now s ready))
+    c.from.ensures ∙ ap from_bool (read c.args.image.now.begins c.as_slice.result.now c.args.self.now.machine.pc c.pc.result c.word_index.result true c.as_slice.ensures c.word_index.ensures c.pc.ensures (begins_ready p c.args.image.now d limits c.args.self.now s ready))
 
 pub returns-clause-amid : goal.returns-clause-amid
 returns-clause-amid c = λ p d limits drawn s left under few.
-    c.from.ensures ∙ ap from_bool (read c.args.image.now.begins c.as_slice.result.now c.args.self.now.machine.state.pc c.pc.result c.word_index.result false c.as_slice.ensures c.word_index.ensures c.pc.ensures
-    (amid_elsewhere p c.args.image.now d limits drawn c.args.self.now s left under few c.requires.code (whole_where c.args.self.now.machine.state.half c.is_half_done.result c.is_half_done.ensures c.if-is_half_done.false)))
+    c.from.ensures ∙ ap from_bool (read c.args.image.now.begins c.as_slice.result.now c.args.self.now.machine.pc c.pc.result c.word_index.result false c.as_slice.ensures c.word_index.ensures c.pc.ensures
+    (amid_elsewhere p c.args.image.now d limits drawn c.args.self.now s left under few c.requires.code (whole_where c.args.self.now.machine.half c.is_half_done.result c.is_half_done.ensures c.if-is_half_done.false)))

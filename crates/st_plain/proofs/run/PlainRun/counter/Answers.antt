@@ -15,7 +15,7 @@ counter-cell-requires-clause-may c = serving.make_room c.args.self.now c.require
 pub go_back-requires : goal.go_back-requires
 go_back-requires c =
     let few = serving.way_back c.args.self.now c.requires.serving (λ e. omega (arith, e)) (λ e. omega (arith, e)) in
-    let same = ap (λ state. register state registers.Ra) c.set_reg.ensures ∙ back_written c.args.self.now.machine.state registers.A6 c.from.result a6_apart in
+    let same = ap (λ state. register state registers.Ra) c.set_reg.ensures ∙ back_written c.args.self.now.machine registers.A6 c.from.result a6_apart in
     omega (arith, few.1, same)
 
 pub returns : goal.returns
@@ -27,10 +27,10 @@ returns c image =
     let room : nat_lt n old.threads.cells.most ≡ true = sym c.has_room.ensures ∙ c.if-not-has_room.false in
     let few : old.threads.cells.most ≤ 65536 = omega arith in
     let cell : c.from.result ≡ n = c.from.ensures ∙ made.number in
-    let machine : c.go_back.new.self.machine.state ≡ at_place (register old.machine.state registers.Ra) (written old.machine.state registers.A6 n) =
+    let machine : c.go_back.new.self.machine ≡ at_place (register old.machine registers.Ra) (written old.machine registers.A6 n) =
     back.machine
-    ∙ placed_back old.machine.state c.set_reg.new.self.state registers.A6 c.from.result a6_apart c.set_reg.ensures
-    ∙ ap (λ k. at_place (register old.machine.state registers.Ra) (written old.machine.state registers.A6 k)) cell in
+    ∙ placed_back old.machine c.set_reg.new.self registers.A6 c.from.result a6_apart c.set_reg.ensures
+    ∙ ap (λ k. at_place (register old.machine registers.Ra) (written old.machine registers.A6 k)) cell in
     served_on image old c.go_back.new.self back.board back.code (ap (λ threads. threads.cells.most) back.threads ∙ made.room)
     (λ p d limits names s tables entry defined.
     counter_goes p d image limits old c.go_back.new.self names s tables entry defined c.requires.at room few machine (ap (λ board. board.words.stack) back.board)

@@ -26,7 +26,7 @@ pub returns-in-Future : goal.returns-in-Future
 returns-in-Future c =
     let old = c.args.self.now in
     let trap = c.trap.ensures in
-    let cell : slice_get old.threads.cells.items.items (register old.machine.state registers.A6) ≡ Some (Future c.in-Future.value) = cc (c.cell.ensures, c.in-Future.is, c.reg-number.ensures) in
+    let cell : slice_get old.threads.cells.items.items (register old.machine registers.A6) ≡ Some (Future c.in-Future.value) = cc (c.cell.ensures, c.in-Future.is, c.reg-number.ensures) in
     served_end c.args.image.now old c.trap.result
     (λ p d limits names s tables entry defined.
     subst (EndsBy p d limits _ old.threads.notes.items.items old.threads.out.items.items s) (sym trap.2)
@@ -44,12 +44,12 @@ returns-in-Counter c =
     let old = c.args.self.now in
     let set = c.set_count.ensures in
     let count = c.in-Counter.count in
-    let cell : slice_get old.threads.cells.items.items (register old.machine.state registers.A6) ≡ Some (Counter count) = cc (c.cell.ensures, c.in-Counter.is, c.reg-number.ensures) in
-    let cells : c.go_back.new.self.threads.cells.items.items ≡ slice_set old.threads.cells.items.items (register old.machine.state registers.A6) (Counter (counted count)) =
+    let cell : slice_get old.threads.cells.items.items (register old.machine registers.A6) ≡ Some (Counter count) = cc (c.cell.ensures, c.in-Counter.is, c.reg-number.ensures) in
+    let cells : c.go_back.new.self.threads.cells.items.items ≡ slice_set old.threads.cells.items.items (register old.machine registers.A6) (Counter (counted count)) =
     ap (λ threads. threads.cells.items.items) back.threads
     ∙ set.cells
     ∙ ap (λ n. slice_set old.threads.cells.items.items n (Counter c.counted.result)) c.reg-number.ensures
-    ∙ ap (λ n. slice_set old.threads.cells.items.items (register old.machine.state registers.A6) (Counter n)) c.counted.ensures in
+    ∙ ap (λ n. slice_set old.threads.cells.items.items (register old.machine registers.A6) (Counter n)) c.counted.ensures in
     served_on c.args.image.now old c.go_back.new.self back.board back.code (ap (λ threads. threads.cells.most) back.threads ∙ set.room)
     (λ p d limits names s tables entry defined.
     done_goes p d c.args.image.now limits old c.go_back.new.self names s tables entry defined c.requires.at count cell back.machine (ap (λ board. board.words.stack) back.board) cells

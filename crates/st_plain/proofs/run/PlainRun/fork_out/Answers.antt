@@ -16,7 +16,7 @@ pub go_back-requires : goal.go_back-requires
 go_back-requires c =
     let note = c.end-note.result in
     let low = serving.out_back c.args.self.now c.requires.serving c.requires.at note (reverse c.end-note.new.self.notes.items.items) c.end-note.ensures.notes in
-    let same = ap (λ state. register state registers.Ra) c.set_reg.ensures ∙ ap (λ n. register (written c.args.self.now.machine.state note.handle n) registers.Ra) c.from.ensures in
+    let same = ap (λ state. register state registers.Ra) c.set_reg.ensures ∙ ap (λ n. register (written c.args.self.now.machine note.handle n) registers.Ra) c.from.ensures in
     omega (arith, low, same)
 
 pub returns : goal.returns
@@ -29,10 +29,10 @@ returns c image =
     served_on image old c.go_back.new.self back.board back.code (ap (λ threads. threads.cells.most) back.threads ∙ end.room)
     (λ p d limits names s tables entry defined.
     let apart = handle_apart p d image limits old old names s tables entry c.requires.at note (reverse c.end-note.new.self.notes.items.items) end.notes in
-    let machine : c.go_back.new.self.machine.state ≡ at_place (register old.machine.state registers.Ra) (written old.machine.state note.handle note.cell) =
+    let machine : c.go_back.new.self.machine ≡ at_place (register old.machine registers.Ra) (written old.machine note.handle note.cell) =
     back.machine
-    ∙ placed_back old.machine.state c.set_reg.new.self.state note.handle c.from.result apart c.set_reg.ensures
-    ∙ ap (λ n. at_place (register old.machine.state registers.Ra) (written old.machine.state note.handle n)) c.from.ensures in
+    ∙ placed_back old.machine c.set_reg.new.self note.handle c.from.result apart c.set_reg.ensures
+    ∙ ap (λ n. at_place (register old.machine registers.Ra) (written old.machine note.handle n)) c.from.ensures in
     out_goes p d image limits old c.go_back.new.self names s tables entry c.requires.at note (reverse c.end-note.new.self.notes.items.items) end.notes few machine (ap (λ board. board.words.stack) back.board)
     (ap (λ threads. threads.cells.items.items) back.threads ∙ end.cells ∙ ap (λ v. slice_set old.threads.cells.items.items note.cell (Future (Some v))) c.reg.ensures)
     (ap (λ threads. reverse threads.notes.items.items) back.threads) (ap (λ threads. threads.out.items.items) back.threads ∙ end.out))

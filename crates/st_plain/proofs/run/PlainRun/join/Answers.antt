@@ -38,7 +38,7 @@ pub returns-in-Future : goal.returns-in-Future
 returns-in-Future c =
     let old = c.args.self.now in
     let trap = c.trap.ensures in
-    let cell : slice_get old.threads.cells.items.items (register old.machine.state registers.A6) ≡ Some (Future c.in-Future.value) = cc (c.cell.ensures, c.in-Future.is, c.reg.ensures) in
+    let cell : slice_get old.threads.cells.items.items (register old.machine registers.A6) ≡ Some (Future c.in-Future.value) = cc (c.cell.ensures, c.in-Future.is, c.reg.ensures) in
     served_end c.args.image.now old c.trap.result
     (λ p d limits names s tables entry defined.
     subst (EndsBy p d limits _ old.threads.notes.items.items old.threads.out.items.items s) (sym trap.2)
@@ -48,8 +48,8 @@ pub returns-then-count-reg : goal.returns-then-count-reg
 returns-then-count-reg c =
     let old = c.args.self.now in
     let count = c.in-Counter.count in
-    let cell : slice_get old.threads.cells.items.items (register old.machine.state registers.A6) ≡ Some (Counter count) = cc (c.cell.ensures, c.in-Counter.is, c.reg.ensures) in
-    let less : nat_lt count (register old.machine.state registers.A0) ≡ true = lt-ltb count (register old.machine.state registers.A0) (omega (arith, c.if-count-reg.true, c.reg-in-Counter.ensures)) in
+    let cell : slice_get old.threads.cells.items.items (register old.machine registers.A6) ≡ Some (Counter count) = cc (c.cell.ensures, c.in-Counter.is, c.reg.ensures) in
+    let less : nat_lt count (register old.machine registers.A0) ≡ true = lt-ltb count (register old.machine registers.A0) (omega (arith, c.if-count-reg.true, c.reg-in-Counter.ensures)) in
     served_end c.args.image.now old _
     (λ p d limits names s tables entry defined. join_waits p d c.args.image.now limits old old names s tables entry defined c.requires.at count c.line_of_call.result cell less c.line_of_call.ensures)
 
@@ -58,8 +58,8 @@ returns-else-count-reg c =
     let back = c.go_back.ensures in
     let old = c.args.self.now in
     let count = c.in-Counter.count in
-    let cell : slice_get old.threads.cells.items.items (register old.machine.state registers.A6) ≡ Some (Counter count) = cc (c.cell.ensures, c.in-Counter.is, c.reg.ensures) in
-    let enough : nat_lt count (register old.machine.state registers.A0) ≡ false = le-ltb count (register old.machine.state registers.A0) (omega (arith, c.if-count-reg.false, c.reg-in-Counter.ensures)) in
+    let cell : slice_get old.threads.cells.items.items (register old.machine registers.A6) ≡ Some (Counter count) = cc (c.cell.ensures, c.in-Counter.is, c.reg.ensures) in
+    let enough : nat_lt count (register old.machine registers.A0) ≡ false = le-ltb count (register old.machine registers.A0) (omega (arith, c.if-count-reg.false, c.reg-in-Counter.ensures)) in
     served_on c.args.image.now old c.go_back.new.self back.board back.code (ap (λ threads. threads.cells.most) back.threads)
     (λ p d limits names s tables entry defined.
     join_goes p d c.args.image.now limits old c.go_back.new.self names s tables entry defined c.requires.at count cell enough back.machine (ap (λ board. board.words.stack) back.board) back.threads)

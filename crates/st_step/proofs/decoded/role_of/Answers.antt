@@ -1,5 +1,5 @@
-use Rattle.st_step.proofs.Sorting.{sum_suits, difference_suits, product_suits, and_suits, or_suits, xor_suits, and_immediate_suits, xor_immediate_suits, left_shift_suits, right_shift_suits, less_immediate_suits, equal_suits, unequal_suits, less_suits, not_less_suits, less_unsigned_suits, not_less_unsigned_suits}
-use Rattle.st_step.proofs.sort.sort_of.Goals as goal
+use Rattle.st_step.proofs.RolesSuit.{sum_suits, difference_suits, product_suits, and_suits, or_suits, xor_suits, and_immediate_suits, xor_immediate_suits, left_shift_suits, right_shift_suits, less_immediate_suits, equal_suits, unequal_suits, less_suits, not_less_suits, less_unsigned_suits, not_less_unsigned_suits}
+use Rattle.st_step.proofs.decoded.role_of.Goals as goal
 
 pub returns-in-Add : goal.returns-in-Add
 returns-in-Add c = sum_suits c.args.i c.in-Add.is

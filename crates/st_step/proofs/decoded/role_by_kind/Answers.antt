@@ -1,6 +1,6 @@
 use Rattle.std.proofs.Common.{◌∙◌, sym}
-use Rattle.st_step.proofs.Sorting.{register_suits, immediate_suits, upper_suits}
-use Rattle.st_step.proofs.sort.sort_by_kind.Goals as goal
+use Rattle.st_step.proofs.RolesSuit.{register_suits, immediate_suits, upper_suits}
+use Rattle.st_step.proofs.decoded.role_by_kind.Goals as goal
 
 pub returns-in-Register : goal.returns-in-Register
 returns-in-Register c = register_suits c.args.i (sym c.kind.ensures ∙ c.in-Register.is)
