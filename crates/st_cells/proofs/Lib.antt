@@ -1,3 +1,4 @@
 pub mod Staying
+pub mod Waiters
 pub mod Owners
 pub mod Trying

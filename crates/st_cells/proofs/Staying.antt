@@ -1,5 +1,6 @@
 -- What steps leave of State and Value words.
 use Rattle.std.proofs.Common.{◌≡◌, ◌≢◌, inl, inr, ℕ, zero, suc, Bool, true, false, ◌==◌, List, [], ◌∷◌, Some, refl, sym, ap, ◌∙◌, subst, eqb-true, ne_eqb}
+use Rattle.std.specs.List.{Contains}
 use Rattle.std.specs.Prelude.{slice_get, slice_set}
 use Rattle.std.proofs.lemmas.Bool.{cases_eq}
 use Rattle.st_words.specs.declared.view.CellWord.TheVariants as words
@@ -11,7 +12,7 @@ use Rattle.st_words.specs.Steps.{StackLoad, StackStore, Mark, Look, CellLoad, Ce
 use Rattle.st_words.specs.declared.view.Slot.TheVariants.{Cell, Mail}
 use Rattle.st_cells.specs.Laws.{FullStays, ValueStays, AgainKeeps}
 
-get_set_other : (xs : List ℕ) (i j n : ℕ) → i ≢ j → slice_get (slice_set xs i n) j ≡ slice_get xs j
+pub get_set_other : (xs : List ℕ) (i j n : ℕ) → i ≢ j → slice_get (slice_set xs i n) j ≡ slice_get xs j
 get_set_other [] i j n d = refl
 get_set_other (x ∷ xs) zero zero n d = absurd (d refl)
 get_set_other (x ∷ xs) zero (suc j) n d = refl
@@ -25,7 +26,7 @@ not_changed u c old new (inr (inl fill)) other = fill.1
 not_changed u c old new (inr (inr (inl done))) other = absurd (other done.0)
 not_changed u c old new (inr (inr (inr join))) other = absurd (other join.0)
 
-some_same : {m n : ℕ} → Some m ≡ Some n → m ≡ n
+pub some_same : {m n : ℕ} → Some m ≡ Some n → m ≡ n
 some_same e = cc
 
 changed_stays : (test : Bool) (states : List ℕ) (c d old new n : ℕ) → (test ≡ true → n ≡ old) → slice_get states d ≡ Some n → (c ≡ d → old ≢ full_word) → slice_get states c ≡ Some full_word → slice_get (changed test d new states) c ≡ Some full_word
@@ -65,8 +66,8 @@ full_stays x ls w u (MailStore at n) a c can said other full = full
 full_stays x ls w u (OutStore i n) a c can said other full = full
 full_stays x ls w u (SlotTake (Cell k)) a c can said other full = full
 full_stays x ls w u (SlotTake (Mail k)) a c can said other full = full
-full_stays x ls w u (SlotPut (Cell k) chain load) a c can said other full = full
-full_stays x ls w u (SlotPut (Mail k) chain load) a c can said other full = full
+full_stays x ls w u (SlotPut (Cell k) chain cargo) a c can said other full = full
+full_stays x ls w u (SlotPut (Mail k) chain cargo) a c can said other full = full
 full_stays x ls w u (OutLoad i) a c can said other full = full
 full_stays x ls w u (CellStore d words.Owner n) a c can said other full = full
 full_stays x ls w u (CellStore d words.Value n) a c can said other full = full
@@ -108,15 +109,15 @@ value_stays x ls w u (MailStore at n) a c can said other = refl
 value_stays x ls w u (OutStore i n) a c can said other = refl
 value_stays x ls w u (SlotTake (Cell k)) a c can said other = refl
 value_stays x ls w u (SlotTake (Mail k)) a c can said other = refl
-value_stays x ls w u (SlotPut (Cell k) chain load) a c can said other = refl
-value_stays x ls w u (SlotPut (Mail k) chain load) a c can said other = refl
+value_stays x ls w u (SlotPut (Cell k) chain cargo) a c can said other = refl
+value_stays x ls w u (SlotPut (Mail k) chain cargo) a c can said other = refl
 value_stays x ls w u (OutLoad i) a c can said other = refl
 value_stays x ls w u (CellStore d words.Owner n) a c can said other = refl
 value_stays x ls w u (CellStore d words.Next n) a c can said other = refl
 value_stays x ls w u (CellStore d words.Standing n) a c can said other = refl
 value_stays x ls w u (CellStore d words.Trap n) a c can said other = refl
 value_stays x ls w u (CellStore d words.State n) a c can said other = absurd can.1
-value_stays x ls w u (CellStore d words.Value n) a c can said other = get_set_other x.values d c n (λ same. other (subst (HasThread u) same can.1.0))
+value_stays x ls w u (CellStore d words.Value n) a c can said other = get_set_other x.values d c n (λ same. can.1.1 (subst (Contains u.full) (sym same) (other (subst (HasThread u) same can.1.0))))
 value_stays x ls w u (CellChange d old new) Done c can said other = refl
 value_stays x ls w u (CellChange d old new) (Looked m l) c can said other = refl
 value_stays x ls w u (CellChange d old new) (Took k l) c can said other = refl

@@ -11,9 +11,9 @@ use Rattle.st_words.specs.declared.view.Waiter.{Waiter}
 use Rattle.st_words.specs.Encodings.{full_word, counter_owner, counter_word, count_after, count_in}
 use Rattle.st_words.specs.Plain.{first_view}
 use Rattle.st_base.specs.declared.limits.Limits.{Limits}
-use Rattle.st_words.specs.Laws.{named, progress_of, IsWaiting}
-use Rattle.st_words.specs.Steps.{Step, CellLoad, CellStore, CellChange, SlotPut, Draw, Answer, Done, Number, Can, Asks, IsLinked, HasInHand, HasThread, HasChain, IsCounter}
-use Rattle.st_words.specs.Views.{Does, IsFree, view_after, no_load, waiter_of, linked}
+use Rattle.st_words.specs.Laws.{named, progress_of}
+use Rattle.st_words.specs.Steps.{Step, CellLoad, CellStore, CellChange, SlotPut, Draw, Answer, Done, Number, Can, Asks, IsLinked, HasInHand, HasThread, HasChain, IsCounter, IsWaiting}
+use Rattle.st_words.specs.Views.{Does, IsFree, view_after, no_cargo, waiter_of, linked}
 use Rattle.st_words.proofs.Lists.{contains_here, contains_later, contains_none, map_in}
 use Rattle.st_words.proofs.Naming.{named_asks, size_laws}
 use Rattle.st_words.proofs.Puts.{put_laws}
@@ -27,7 +27,7 @@ abbrev pub IsAfter : View → Step → Answer → View → Type 0
 IsAfter v s a w = w ≡ named (progress_of (holding v)) (holding v) s a
 
 pub asks : (says : Step → Answer → Type 0) (v : View) (s : Step) → Can (holding v) s → MayAsk says v s
-asks says v s can = named_asks says v (holding v) (λ t a. progress_of (holding v)) s (record { progress = progress_of (holding v); chains = (holding v).chains; names = v.names; exported = v.exported }, refl) can
+asks says v s can = named_asks says v (holding v) (λ t a. progress_of (holding v)) s (record { progress = progress_of (holding v); child = v.child; chains = (holding v).chains; exported = v.exported }, refl) can
 
 pub cells_kept : (v w : View) (s : Step) (a : Answer) → IsAfter v s a w → v.cells ≡ 16 → w.cells ≡ 16
 cells_kept v w s a after e = ap (λ (x : View). x.cells) after ∙ size_laws.cells (holding v) s a ∙ e
@@ -47,11 +47,11 @@ holds_chain : (v : View) (c : ℕ) → (c ≡ 2) ⊎ (c ≡ 3) → HasChain (hol
 holds_chain v c (inl e) = (carried_of 2, contains_here (carried_of 2) (carried_of 3 ∷ []), sym e)
 holds_chain v c (inr e) = (carried_of 3, contains_later (carried_of 3) (carried_of 2) (carried_of 3 ∷ []) (contains_here (carried_of 3) []), sym e)
 
-pub asks_put : (says : Step → Answer → Type 0) (v : View) (c : ℕ) (chain : Chain) → v.cells ≡ 16 → c < 16 → (c ≡ 2) ⊎ (c ≡ 3) → chain.cell ≡ c → MayAsk says v (SlotPut (Cell c) chain no_load)
-asks_put says v c chain cells l one e = asks says v (SlotPut (Cell c) chain no_load) (omega (arith, cells), (e, holds_chain v c one), omega arith, omega arith)
+pub asks_put : (says : Step → Answer → Type 0) (v : View) (c : ℕ) (chain : Chain) → v.cells ≡ 16 → c < 16 → (c ≡ 2) ⊎ (c ≡ 3) → chain.cell ≡ c → MayAsk says v (SlotPut (Cell c) chain no_cargo)
+asks_put says v c chain cells l one e = asks says v (SlotPut (Cell c) chain no_cargo) (omega (arith, cells), (e, holds_chain v c one), omega arith, omega arith)
 
-pub put_in_hand : (v w : View) (c : ℕ) (chain : Chain) → chain.wait ≡ waits.Touch 1 → IsAfter v (SlotPut (Cell c) chain no_load) Done w → HasInHand w c
-put_in_hand v w c chain wait after = subst (λ (x : View). HasInHand x c) (sym after) (put_laws.hand (holding v) c chain no_load (subst IsWaiting (sym wait) tt))
+pub put_in_hand : (v w : View) (c : ℕ) (chain : Chain) → chain.wait ≡ waits.Touch 1 → IsAfter v (SlotPut (Cell c) chain no_cargo) Done w → HasInHand w c
+put_in_hand v w c chain wait after = subst (λ (x : View). HasInHand x c) (sym after) (put_laws.hand (holding v) c chain no_cargo (subst IsWaiting (sym wait) tt))
 
 pub asks_link : (says : Step → Answer → Type 0) (v : View) (c : ℕ) → v.cells ≡ 16 → c < 16 → HasInHand v c → MayAsk says v (CellStore c words.Next 0)
 asks_link says v c cells l hand = asks says v (CellStore c words.Next 0) (omega (arith, cells), (hand, omega arith))
@@ -118,12 +118,12 @@ named_hand v w c n none after = ap (λ (x : View). x.hand) after ∙ none
 abbrev joins_at : ℕ → Option ℕ → Waiter
 joins_at cell next = record { cell = 2; wait = Some (waits.Join cell 3); next = next; leads = false }
 
-pub joined_hand : (v w : View) (cell : ℕ) (chain : Chain) → chain.wait ≡ waits.Join cell 3 → v.hand ≡ [] → IsAfter v (SlotPut (Cell 2) chain no_load) Done w → w.hand ≡ joins_at cell None ∷ []
+pub joined_hand : (v w : View) (cell : ℕ) (chain : Chain) → chain.wait ≡ waits.Join cell 3 → v.hand ≡ [] → IsAfter v (SlotPut (Cell 2) chain no_cargo) Done w → w.hand ≡ joins_at cell None ∷ []
 unfolding view_after
 joined_hand v w cell chain wait none after =
     ap (λ (x : View). x.hand) after ∙ ap (λ hand. waiter_of 2 chain.wait hand) none ∙ ap (λ x. waiter_of 2 x []) wait
 
-pub joined_counter : (v w : View) (c : ℕ) (chain : Chain) → IsCounter v c → IsAfter v (SlotPut (Cell 2) chain no_load) Done w → IsCounter w c
+pub joined_counter : (v w : View) (c : ℕ) (chain : Chain) → IsCounter v c → IsAfter v (SlotPut (Cell 2) chain no_cargo) Done w → IsCounter w c
 unfolding view_after
 joined_counter v w c chain counter after = (counter.0, subst (λ xs. Contains xs (c, counter.0)) (sym (ap (λ (x : View). x.owners) after)) counter.1, counter.2)
 

@@ -1,8 +1,8 @@
--- What the words of a cell tell: owner_word (FitsWord), and how a call's result is read from the word that was found (IsDrawn, IsLooked, IsCounted,
--- IsTried, IsHanded).
+-- What the words of a cell tell: owner_word (FitsWord), counted_up, and how a call's result is read from the word that was found (IsDrawn, IsLooked, IsCounted,
+-- IsTried).
 use Rattle.std.specs.Prelude.{◌≡◌, ◌≢◌, ℕ, ◌<◌, ◌≤◌, ◌^◌, if◌then◌else◌, Result, Ok, Err}
 use Rattle.st_base.specs.declared.chain.Again.{Again}
-use Rattle.st_words.specs.Encodings.{thread_owner, counter_owner, full_word, count_in, head_in}
+use Rattle.st_words.specs.Encodings.{thread_owner, counter_owner, full_word, count_in, head_in, counter_word, count_after}
 use Rattle.st_cells.specs.declared.found.Owner.{Owner}
 use Rattle.st_cells.specs.declared.found.Full.{Full}
 use Rattle.st_cells.specs.declared.found.Looked.{Looked}
@@ -16,6 +16,10 @@ owner_word owner = if owner.counter then counter_owner owner.parent owner.number
 -- an owner whose parts an Owner word has room for
 abbrev pub FitsWord : Owner → Type 0
 FitsWord owner = (owner.parent < 2 ^ 17) × (owner.number < 2 ^ 32)
+
+-- the State word of a counter after its count has grown by one, or stood still at its end: nobody waits
+abbrev pub counted_up : ℕ → ℕ
+counted_up seen = counter_word (count_after (count_in seen)) 0
 
 -- a number was drawn, or the number found isn't below the number of cells
 abbrev pub IsDrawn : ℕ → ℕ → Result ℕ Full → Type 0

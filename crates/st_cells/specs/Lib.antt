@@ -1,4 +1,4 @@
 pub mod Cells
-pub mod Calls
 pub mod Laws
+pub mod Waiters
 pub mod Trying

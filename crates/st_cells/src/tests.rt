@@ -2,20 +2,20 @@
 ghost use Rattle.std.specs.Prelude.{◌≡◌, true, ◌⊎◌, ◌<◌, ◌∷◌, [], length, IfOk};
 ghost use Rattle.st_words.specs.Laws.{named, progress_of};
 ghost use Rattle.st_words.specs.Plain.{view_at, first_view};
-ghost use Rattle.st_words.specs.Views.{no_load};
+ghost use Rattle.st_words.specs.Views.{no_cargo};
 ghost use Rattle.st_words.specs.Steps.{IsCounter};
 ghost use Rattle.st_base.specs.declared.chain.Waiting.TheVariants.{Touch, Join};
 ghost use Rattle.st_cells.specs.Trying.{holding};
 
 use crate::cells::{
-    count, done, draw, fill, look, next, owner, park, park_join, set_next, set_owner, set_value,
-    value,
+    count, counted_up, done, draw, fill, look, next, owner, park, park_join, set_next, set_owner,
+    set_value, value,
 };
-use crate::encodings::{count_after, count_in, counter_word, head_in, owner_in, owner_word};
+use crate::encodings::{head_in, owner_in, owner_word};
 use crate::found::{Counted, Full, Looked, Owner};
 use st_base::chain::{Again, Chain, Note, Waiting};
 use st_base::limits::Limits;
-use st_words::board::{Board, Next};
+use st_words::board::{Board, NamesView};
 use st_words::plain::PlainBoard;
 use st_words::view::Slot;
 use std::alloc::{AllocError, Global};
@@ -25,10 +25,10 @@ use std::test::Fail;
 /// Names the view after a step of a worker that has come to hold the thread of cell 1, and the chains of cells 2 and 3 in its turn.
 struct Holding;
 
-impl Next for Holding {
+impl NamesView for Holding {
     ghost after = { λ v s a. named (progress_of (holding v)) (holding v) s a };
 
-    ghost load = { λ _ _ _. no_load };
+    ghost cargo = { λ _ _ _. no_cargo };
 }
 
 fn limits() -> Limits
@@ -174,6 +174,58 @@ impl Held {
     }
 }
 
+impl Held {
+    /// The future is empty, waiter 2 is parked, and waiter 3 finds it there.
+    fn is_parked_once(&mut self) -> bool {
+        let is_empty = self.look() == Looked::Empty { seen: 0 };
+        let is_parked = self.wait(2) == Ok(());
+        let is_refused = self.wait(3) == Err(Again { now: 3 });
+        is_empty & is_parked & is_refused
+    }
+
+    /// The future is made full, and not again; waiter 2 is handed out.
+    fn is_filled_once(&mut self) -> bool {
+        let is_filled = self.fill(3) == Ok(3);
+        let is_filled_once = self.fill(3) == Err(Again { now: 1 << 32 });
+        let is_full = self.look() == Looked::Full;
+        let has_value = self.value() == 7;
+        let is_last = self.next(2) == 0;
+        is_filled & is_filled_once & is_full & has_value & is_last
+    }
+
+    /// The counter is counted up from 0 to 1.
+    fn is_counted(&mut self, cell: u32) -> bool
+        requires within { cell < 16 }
+        requires counter { IsCounter (view_at self.old.board.kept.views 0) cell }
+    {
+        let is_done = self.done(cell, 0) == Ok(0);
+        let counted = Counted {
+            count: 1,
+            head: 0,
+            seen: 131_072,
+        };
+        let is_counted = self.count(cell) == counted;
+        let is_named = self.owner(cell) == first_counter();
+        is_done & is_counted & is_named
+    }
+
+    /// A thread waits at the counter.
+    fn is_joined(&mut self, cell: u32) -> bool
+        requires within { cell < 16 }
+        requires counter { IsCounter (view_at self.old.board.kept.views 0) cell }
+        requires hand { (view_at self.old.board.kept.views 0).hand ≡ [] }
+    {
+        let is_parked = self.join(cell) == Ok(());
+        let joined = Counted {
+            count: 0,
+            head: 3,
+            seen: 3,
+        };
+        let is_joined = self.count(cell) == joined;
+        is_parked & is_joined
+    }
+}
+
 /// The chain of cell 2, whose thread waits until the counter in a cell has come to 3.
 fn joining(cell: u32) -> Chain
     ensures { (result.cell ≡ 2) × (result.wait ≡ Join cell 3) }
@@ -188,61 +240,34 @@ fn joining(cell: u32) -> Chain
 fn numbers_are_drawn_until_there_are_no_more(rt: HostRuntime) -> Result<(), Fail> {
     let mut held = Held::open(rt.alloc(), 7)?;
     for number in 1..16 {
-        assert_eq!(rt; held.draw(), Ok(number));
+        assert!(rt; held.draw() == Ok(number));
     }
-    assert_eq!(rt; held.draw(), Err(Full { cells: 16 }));
+    assert!(rt; held.draw() == Err(Full { cells: 16 }));
     Ok(())
 }
 
 #[test]
 fn a_future_is_waited_for_and_made_full(rt: HostRuntime) -> Result<(), Fail> {
     let mut held = Held::open(rt.alloc(), 7)?;
-    assert_eq!(rt; held.look(), Looked::Empty { seen: 0 });
-    assert_eq!(rt; held.wait(2), Ok(()));
-    assert_eq!(rt; held.wait(3), Err(Again { now: 3 }));
-    assert_eq!(rt; held.fill(3), Ok(3));
-    assert_eq!(rt; held.fill(3), Err(Again { now: 1 << 32 }));
-    assert_eq!(rt; held.look(), Looked::Full);
-    assert_eq!(rt; held.value(), 7);
-    assert_eq!(rt; held.next(2), 0);
+    let is_parked = held.is_parked_once();
+    let is_filled = held.is_filled_once();
+    assert!(rt; is_parked & is_filled);
     Ok(())
 }
 
 #[test]
-fn a_counter_is_named_and_counted_up(rt: HostRuntime) -> Result<(), Fail> {
-    let mut held = Held::open(rt.alloc(), 7)?;
-    let Ok(cell) = held.counter() else {
+fn counters_are_counted_up_and_waited_for(rt: HostRuntime) -> Result<(), Fail> {
+    let mut counts = Held::open(rt.alloc(), 7)?;
+    let mut joins = Held::open(rt.alloc(), 7)?;
+    let Ok(cell) = counts.counter() else {
         return Err(Fail::new("no cell is left"));
     };
-    assert_eq!(rt; cell, 1);
-    assert_eq!(rt; held.done(cell, 0), Ok(0));
-    assert_eq!(rt;
-        held.count(cell),
-        Counted {
-            count: 1,
-            head: 0,
-            seen: 131_072
-        }
-    );
-    assert_eq!(rt; held.owner(cell), first_counter());
-    Ok(())
-}
-
-#[test]
-fn a_counter_is_waited_for(rt: HostRuntime) -> Result<(), Fail> {
-    let mut held = Held::open(rt.alloc(), 7)?;
-    let Ok(cell) = held.counter() else {
+    let Ok(other) = joins.counter() else {
         return Err(Fail::new("no cell is left"));
     };
-    assert_eq!(rt; held.join(cell), Ok(()));
-    assert_eq!(rt;
-        held.count(cell),
-        Counted {
-            count: 0,
-            head: 3,
-            seen: 3
-        }
-    );
+    let is_counted = counts.is_counted(cell);
+    let is_joined = joins.is_joined(other);
+    assert!(rt; is_counted & is_joined);
     Ok(())
 }
 
@@ -253,14 +278,16 @@ fn words_of_cells_are_written_and_read(rt: HostRuntime) {
         parent: 65_535,
         number: 7,
     };
-    assert_eq!(rt; owner_word(own), 2 + 131_070 + 7 * 262_144);
-    assert_eq!(rt; owner_in(2 + 131_070 + 7 * 262_144), own);
-    assert_eq!(rt; owner_in(1).parent, 0);
-    assert_eq!(rt; counter_word(count_after(count_in(0)), 0), 131_072);
-    assert_eq!(rt;
-        counter_word(count_after(count_in(131_072 + 5)), 0),
-        262_144
-    );
-    assert_eq!(rt; head_in(131_072 + 5), 5);
-    assert_eq!(rt; count_after((1 << 47) - 1), (1 << 47) - 1);
+    let is_written = owner_word(own) == 2 + 131_070 + 7 * 262_144;
+    let is_read = owner_in(2 + 131_070 + 7 * 262_144) == own;
+    assert!(rt; is_written & is_read);
+    let last = ((1 << 47) - 1) * 131_072;
+    let words = [
+        (0, 131_072, 0),
+        (131_072 + 5, 262_144, 5),
+        (last + 9, last, 9),
+    ];
+    for (seen, after, head) in words {
+        assert!(rt; (counted_up(seen) == after) & (head_in(seen) == head));
+    }
 }

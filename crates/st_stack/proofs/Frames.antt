@@ -1,14 +1,16 @@
 -- The list of exported frames as it is kept: what stands where, what an insert and a pop leave, and that there is room.
 use Rattle.std.proofs.Common.{◌≡◌, ◌≢◌, ◌⊎◌, inl, inr, ℕ, zero, suc, ◌+◌, ◌-◌, ◌*◌, ◌/◌, ◌<◌, ◌≤◌, Bool, true, false, List, [], ◌∷◌, length, get_or, Option, Some, None, refl, sym, ap, ◌∙◌, subst, arith, take, ltb, ltb-true, ltb-false, lt-ltb, cond, eq-eqb, nat_eq, ◌&&◌}
-use Rattle.std.specs.Prelude.{◌%◌}
+use Rattle.std.specs.Prelude.{◌%◌, ◌^◌}
 use Rattle.std.specs.List.{Contains, insert}
 use Rattle.std.specs.Option.{IfSome}
 use Rattle.std.specs.List.Sorted.{IsPartitionedBy, IsPartitionPoint}
+use Rattle.std.proofs.Math.Nat.{mul-le-mul}
 use Rattle.std.proofs.lemmas.Bool.{cases_lt}
 use Rattle.std.proofs.lemmas.List.{get_or-take, get_or_default, length-take-le}
 use Rattle.std.proofs.lemmas.List.Edits.{length-insert, get_or-insert_below, get_or-insert_at, get_or-insert_above}
 use Rattle.st_base.specs.declared.chain.Frame.{Frame}
-use Rattle.st_stack.specs.Exported.{IsFrameOn, MayExport, IsWith, IsWithout, IsLowest, IsLimit, no_frame, frame_at, AllOn, IsDescending, IsPlaceOf}
+use Rattle.st_stack.specs.Shrinking.{IsStackOf}
+use Rattle.st_stack.specs.Exported.{IsRange, IsFrameOn, MayExport, IsWith, IsWithout, IsLowest, IsLimit, Apart, no_frame, frame_at, AllOn, IsDescending, IsPlaceOf}
 
 -- ---- members
 
@@ -311,3 +313,37 @@ not_there lo hi fs f g n on falls place is e there =
     let t : nat_eq g.low f.low && nat_eq g.base f.base ≡ true = subst (λ x. nat_eq x.low f.low && nat_eq x.base f.base ≡ true) (sym same) (both_same f.low f.base) in
     let z : true ≡ false = sym t ∙ e in
     absurd (cc)
+
+-- ---- what is always so
+
+-- no two frames overlap
+pub lie_apart : (fs : List Frame) → IsDescending fs → (f g : Frame) → Contains fs f → Contains fs g → f ≢ g → Apart f g
+lie_apart fs falls f g c d other =
+    let here = at_of fs f c in
+    let there = at_of fs g d in
+    let j : ℕ = here.0 in
+    let k : ℕ = there.0 in
+    let e : frame_at fs j ≡ f = here.2 in
+    let h : frame_at fs k ≡ g = there.2 in
+    elim (cases_lt j k) [
+      | inl above ↦ inr (let a : (frame_at fs k).base ≤ (frame_at fs j).low = falls j k above there.1 in subst (λ x. g.base ≤ x.low) e (subst (λ x. x.base ≤ (frame_at fs j).low) h a))
+      | inr behind ↦ elim (cases_lt k j) [
+        | inl below ↦ inl (let a : (frame_at fs j).base ≤ (frame_at fs k).low = falls k j below here.1 in subst (λ x. f.base ≤ x.low) h (subst (λ x. x.base ≤ (frame_at fs k).low) e a))
+        | inr same ↦ let q : j ≡ k = omega arith in absurd (other (sym e ∙ ap (frame_at fs) q ∙ h))
+      ]
+    ]
+
+-- ---- addresses
+
+-- the return word of a frame on one of the stacks is one of the first 2^21 words
+pub places : (w lo hi : ℕ) → IsStackOf w lo hi → IsRange lo hi → (low base : ℕ) → lo ≤ low → low < base → low % 16 ≡ 0 → base % 16 ≡ 0 → base ≤ hi → (0x8000_0008 ≤ base) × (base ≤ 0x8000_0000 + 2 ^ 24)
+places w lo hi stack range low base from some even too to =
+    let bytes : ℕ = stack.low.0 in
+    let worker : w < 16 = stack.worker in
+    let a : lo ≡ 0x8000_0000 + w * bytes = stack.low.1 in
+    let b : hi ≡ lo + bytes = stack.low.2 in
+    let size : hi - lo ≤ 1048576 = range.size in
+    let few : w ≤ 15 = omega arith in
+    let same : bytes ≤ bytes = omega arith in
+    let most : w * bytes ≤ 15 * bytes = mul-le-mul few same in
+    (omega arith, omega arith)

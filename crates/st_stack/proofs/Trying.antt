@@ -11,11 +11,11 @@ use Rattle.st_words.specs.declared.plain.PlainBoard.{PlainBoard}
 use Rattle.std.proofs.lemmas.Bool.{cases_eq}
 use Rattle.st_base.specs.declared.chain.Frame.{Frame}
 use Rattle.st_base.specs.declared.limits.Limits.{Limits}
-use Rattle.st_words.specs.declared.view.Load.{Load}
+use Rattle.st_words.specs.declared.view.Cargo.{Cargo}
 use Rattle.st_words.specs.declared.view.View.{View}
 use Rattle.st_words.specs.declared.words.Words.{Words}
 use Rattle.st_words.specs.Laws.{named, progress_of}
-use Rattle.st_words.specs.Plain.{first_view, first_held, view_at, Exact, Left, Loads, stack_load, words_after}
+use Rattle.st_words.specs.Plain.{first_view, first_held, view_at, Exact, Left, Cargoes, stack_cargo, words_after}
 use Rattle.st_words.specs.Steps.{Step, StackStore, Look, Answer, Done as Stored, Looked, Asks, Holds, kept, return_place}
 use Rattle.st_words.specs.Views.{Does, IsFree, view_after, held_with, taken_back, frame_returning}
 use Rattle.st_words.proofs.Lists.{kept_set_here, kept_set_other, inside_case, contains_none}
@@ -81,7 +81,7 @@ asks_look says v f all on =
     let some : f.low < f.base = on.some in
     let to : f.base ≤ 0x8001_0000 = on.to in
     let l : p < 8192 = omega arith in
-    named_asks says v (exporting v (Look p)) (λ s a. progress_of v) (Look p) (record { progress = progress_of v; chains = v.chains; names = v.names; exported = one_word p ∷ [] }, refl)
+    named_asks says v (exporting v (Look p)) (λ s a. progress_of v) (Look p) (record { progress = progress_of v; child = v.child; chains = v.chains; exported = one_word p ∷ [] }, refl)
     ((one_word p, (0, omega arith, refl), returns_there p), held_bound v p (holds v all p l))
 
 kept_mapped : (xs : List ℕ) (q : ℕ) → q < length xs → (n : ℕ) × (kept (map Some xs) q ≡ Some n)
@@ -96,19 +96,19 @@ with_holds f words held q l a b =
 found_frame : (p : ℕ) → frame_returning p (one_word p ∷ []) ≡ Some (one_word p)
 found_frame p = some_when _ (Some (one_word p)) (eq-eqb (return_place (one_word p)) p (returns_there p))
 
-taken_holds : (v : View) (x : Words) (p : ℕ) → HoldsAll v → length x.stack ≡ 8192 → (q : ℕ) → q < 8192 → is_some (kept (held_with (one_word p) (stack_load x).words v.held) q) ≡ true
+taken_holds : (v : View) (x : Words) (p : ℕ) → HoldsAll v → length x.stack ≡ 8192 → (q : ℕ) → q < 8192 → is_some (kept (held_with (one_word p) (stack_cargo x).words v.held) q) ≡ true
 taken_holds v x p all size q h =
     let word = kept_mapped x.stack q (omega (arith, size)) in
     with_holds (one_word p) (map Some x.stack) v.held q (held_bound v q (holds v all q h)) (is_some_of (kept (map Some x.stack) q) word.0 word.1) (all q h)
 
-pub looked_holds : (v w : View) (x : Words) (ls : Loads) (p n : ℕ) (load : Load) → HoldsAll v → length x.stack ≡ 8192 → Exact x ls 0 (Look p) (Looked n load) → w ≡ named (progress_of v) (exporting v (Look p)) (Look p) (Looked n load) → HoldsAll w
+pub looked_holds : (v w : View) (x : Words) (ls : Cargoes) (p n : ℕ) (cargo : Cargo) → HoldsAll v → length x.stack ≡ 8192 → Exact x ls 0 (Look p) (Looked n cargo) → w ≡ named (progress_of v) (exporting v (Look p)) (Look p) (Looked n cargo) → HoldsAll w
 unfolding view_after
-looked_holds v w x ls p zero load all size said after q h =
-    let same : kept w.held q ≡ kept (taken_back p load.words (frame_returning p (one_word p ∷ [])) (exporting v (Look p))).held q = ap (λ (y : View). kept y.held q) after in
-    let taken : kept (taken_back p load.words (frame_returning p (one_word p ∷ [])) (exporting v (Look p))).held q ≡ kept (held_with (one_word p) load.words v.held) q = ap (λ o. kept (taken_back p load.words o (exporting v (Look p))).held q) (found_frame p) in
-    let told : kept (held_with (one_word p) load.words v.held) q ≡ kept (held_with (one_word p) (stack_load x).words v.held) q = ap (λ (y : Load). kept (held_with (one_word p) y.words v.held) q) said.1 in
+looked_holds v w x ls p zero cargo all size said after q h =
+    let same : kept w.held q ≡ kept (taken_back p cargo.words (frame_returning p (one_word p ∷ [])) (exporting v (Look p))).held q = ap (λ (y : View). kept y.held q) after in
+    let taken : kept (taken_back p cargo.words (frame_returning p (one_word p ∷ [])) (exporting v (Look p))).held q ≡ kept (held_with (one_word p) cargo.words v.held) q = ap (λ o. kept (taken_back p cargo.words o (exporting v (Look p))).held q) (found_frame p) in
+    let told : kept (held_with (one_word p) cargo.words v.held) q ≡ kept (held_with (one_word p) (stack_cargo x).words v.held) q = ap (λ (y : Cargo). kept (held_with (one_word p) y.words v.held) q) said.1 in
     ap is_some (same ∙ taken ∙ told) ∙ taken_holds v x p all size q h
-looked_holds v w x ls p (suc n) load all size said after q h = ap (λ (y : View). is_some (kept y.held q)) after ∙ all q h
+looked_holds v w x ls p (suc n) cargo all size said after q h = ap (λ (y : View). is_some (kept y.held q)) after ∙ all q h
 
 -- ---- the board after a step
 
@@ -119,28 +119,34 @@ stored_length x p n = length-set x.stack p n
 pub own_stack : (lo hi : ℕ) → lo ≡ 0x8000_0000 → hi ≡ 0x8001_0000 → IsStackOf 0 lo hi
 own_stack lo hi low high = record { worker = omega arith; low = (65536, omega (arith, low), omega (arith, low, high)) }
 
-looked_words : (x : Words) (p n : ℕ) (load : Load) → words_after x 0 (Look p) (Looked n load) ≡ x
+looked_words : (x : Words) (p n : ℕ) (cargo : Cargo) → words_after x 0 (Look p) (Looked n cargo) ≡ x
 unfolding words_after
-looked_words x p n load = refl
+looked_words x p n cargo = refl
 
 -- what a board over vectors says, leaves and shows of its first worker
 abbrev pub PlainShrinks : PlainBoard → ℕ → List Frame → List Frame → Option Frame → Shrunk → PlainBoard → Type 0
 PlainShrinks b =
-    Shrinks (Exact b.words b.kept.loads 0) (λ s a c. Left b.words b.kept.loads b.kept.views 0 s a c.words c.kept.loads c.kept.views) (λ s a. named (progress_of (view_at b.kept.views 0)) (exporting (view_at b.kept.views 0) s) s a) (λ c. view_at c.kept.views 0) b
+    Shrinks (λ (d : PlainBoard) w. view_at d.kept.views w) (λ (d : PlainBoard) w. w < length d.kept.views) (λ (d : PlainBoard) w s a. Exact d.words d.kept.cargoes w s a) (λ (d : PlainBoard) w s a c. Left d.words d.kept.cargoes d.kept.views w s a c.words c.kept.cargoes c.kept.views)
+    (λ v s a. named (progress_of v) (exporting v s) s a) b 0
 
 abbrev pub PlainLooks : PlainBoard → Frame → ℕ → PlainBoard → Type 0
 PlainLooks b =
-    LooksAt (Exact b.words b.kept.loads 0) (λ s a c. Left b.words b.kept.loads b.kept.views 0 s a c.words c.kept.loads c.kept.views) (λ s a. named (progress_of (view_at b.kept.views 0)) (exporting (view_at b.kept.views 0) s) s a) (λ c. view_at c.kept.views 0) b
+    LooksAt (λ (d : PlainBoard) w. view_at d.kept.views w) (λ (d : PlainBoard) w. w < length d.kept.views) (λ (d : PlainBoard) w s a. Exact d.words d.kept.cargoes w s a) (λ (d : PlainBoard) w s a c. Left d.words d.kept.cargoes d.kept.views w s a c.words c.kept.cargoes c.kept.views)
+    (λ v s a. named (progress_of v) (exporting v s) s a) b 0
 
-abbrev pub IsWhole : PlainBoard → Type 0
-IsWhole b = (length b.words.stack ≡ 8192) × HoldsAll (view_at b.kept.views 0)
+-- it serves its worker, who holds the whole stack
+pub record IsWhole (b : PlainBoard) : Type 0 where
+  pub serves : 0 < length b.kept.views
+  pub words : length b.words.stack ≡ 8192
+  pub holds : HoldsAll (view_at b.kept.views 0)
 
 look_keeps : (b c : PlainBoard) (f : Frame) (n : ℕ) → IsWhole b → PlainLooks b f n c → IsWhole c
 look_keeps b c f n whole looks =
-    let load : Load = looks.0 in (
-      ap (λ (x : Words). length x.stack) (looks.2.words ∙ looked_words b.words (return_place f) n load) ∙ whole.0,
-      looked_holds (view_at b.kept.views 0) (view_at c.kept.views 0) b.words b.kept.loads (return_place f) n load whole.1 whole.0 looks.1 looks.3,
-    )
+    let cargo : Cargo = looks.0 in record {
+      serves = looks.1.serves;
+      words = ap (λ (x : Words). length x.stack) (looks.1.did.words ∙ looked_words b.words (return_place f) n cargo) ∙ whole.words;
+      holds = looked_holds (view_at b.kept.views 0) (view_at c.kept.views 0) b.words b.kept.cargoes (return_place f) n cargo whole.holds whole.words looks.1.said looks.1.view;
+    }
 
 pub shrink_keeps : (b c : PlainBoard) (hi : ℕ) (fs fs' : List Frame) (top : Option Frame) (r : Shrunk) → IsWhole b → PlainShrinks b hi fs fs' top r c → IsWhole c
 shrink_keeps b c hi fs fs' top More whole shrinks = look_keeps b c shrinks.0 0 whole shrinks.2

@@ -1,6 +1,7 @@
 -- The exported frames of one stack. Read IsFrameOn (a frame that a stack may have), MayExport (one that may be
--- exported beside the others), IsAdded (what an export does), IsWithout (what is left when one is taken back) and IsLimit.
-use Rattle.std.specs.Prelude.{◌≡◌, ◌≢◌, ◌⊎◌, ℕ, ◌-◌, ◌%◌, ◌<◌, ◌≤◌, Bool, true, false, List, [], length, slice_index_or, Result, Ok, Err}
+-- exported beside the others), IsAdded (what an export does), IsWithout (what is left when one is taken back) and IsLimit. Contracts see a stack
+-- as Exports.
+use Rattle.std.specs.Prelude.{◌≡◌, ◌≢◌, ◌⊎◌, ℕ, ◌-◌, ◌/◌, ◌%◌, ◌<◌, ◌≤◌, Bool, true, false, List, [], length, slice_index_or, Result, Ok, Err}
 use Rattle.std.specs.List.{Contains}
 use Rattle.st_base.specs.declared.chain.Frame.{Frame}
 
@@ -24,6 +25,13 @@ pub record IsFrameOn (lo hi : ℕ) (f : Frame) : Type 0 where
 -- two frames that don't overlap
 abbrev pub Apart : Frame → Frame → Type 0
 Apart f g = (f.base ≤ g.low) ⊎ (g.base ≤ f.low)
+
+-- ---- what contracts see of a stack: its exported frames, in any order, and its ends
+
+pub record Exports : Type 0 where
+  pub exported : List Frame
+  pub lo : ℕ
+  pub hi : ℕ
 
 -- ---- exports
 
@@ -73,6 +81,13 @@ AllOn lo hi fs = (k : ℕ) → k < length fs → IsFrameOn lo hi (frame_at fs k)
 -- each lies above those that come after it
 abbrev pub IsDescending : List Frame → Type 0
 IsDescending fs = (j k : ℕ) → j < k → k < length fs → (frame_at fs k).base ≤ (frame_at fs j).low
+
+-- there is room for one frame in each 16 bytes
+pub record IsKept (lo hi capacity : ℕ) (fs : List Frame) : Type 0 where
+  pub range : IsRange lo hi
+  pub on : AllOn lo hi fs
+  pub descending : IsDescending fs
+  pub room : (hi - lo) / 16 ≤ capacity
 
 -- the frames before it have their low ends above this frame's, and no others do
 pub record IsPlaceOf (f : Frame) (fs : List Frame) (n : ℕ) : Type 0 where

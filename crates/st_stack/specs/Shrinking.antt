@@ -1,8 +1,9 @@
--- What a step of shrinking does: Shrinks.
+-- What a step of shrinking does: Shrinks, over LooksAt, the step of the board that it makes.
 use Rattle.std.specs.Prelude.{◌≡◌, ◌≢◌, ◌⊎◌, ℕ, ◌+◌, ◌*◌, ◌<◌, List, [], Option, Some, None, min}
 use Rattle.st_base.specs.declared.chain.Frame.{Frame}
 use Rattle.st_words.specs.declared.view.View.{View}
-use Rattle.st_words.specs.declared.view.Load.{Load}
+use Rattle.st_words.specs.declared.view.Cargo.{Cargo}
+use Rattle.st_words.specs.Made.{StepMade}
 use Rattle.st_words.specs.Steps.{Step, Look, Answer, Looked, return_place}
 use Rattle.st_stack.specs.declared.stack.Shrunk.{Shrunk}
 use Rattle.st_stack.specs.declared.stack.Shrunk.TheVariants.{More, Done}
@@ -18,11 +19,11 @@ abbrev pub lesser : ℕ → Option Frame → ℕ
 lesser limit None = limit
 lesser limit (Some f) = min limit f.low
 
--- what the board may answer, what it leaves, the view after a step, and the board before and after
-module _ {Board : Type 0} (says : Step → Answer → Type 0) (did : Step → Answer → Board → Type 0) (after : Step → Answer → View) (view : Board → View) (old : Board) where
-  -- the return word of the frame is looked at, and is this number
+-- over the members of a board, the view that the caller names, the board before, and the worker
+module _ {Board : Type 0} (board_view : Board → ℕ → View) (board_serves : Board → ℕ → Type 0) (board_says : Board → ℕ → Step → Answer → Type 0) (board_did : Board → ℕ → Step → Answer → Board → Type 0) (after : View → Step → Answer → View) (old : Board) (w : ℕ) where
+  -- the return word of the frame was looked at, and is this number
   abbrev pub LooksAt : Frame → ℕ → Board → Type 0
-  LooksAt f n new = (load : Load) × says (Look (return_place f)) (Looked n load) × did (Look (return_place f)) (Looked n load) new × (view new ≡ after (Look (return_place f)) (Looked n load))
+  LooksAt f n new = (cargo : Cargo) × StepMade board_view board_serves board_says board_did after old w (Look (return_place f)) (Looked n cargo) new
 
   -- the exported frame of least low end is taken back exactly where its return word is 0
   abbrev pub Shrinks : ℕ → List Frame → List Frame → Option Frame → Shrunk → Board → Type 0

@@ -4,13 +4,13 @@ ghost use Rattle.std.specs.List.{Contains};
 ghost use Rattle.st_words.specs.Laws.{named, progress_of};
 ghost use Rattle.st_words.specs.Plain.{view_at};
 ghost use Rattle.st_words.specs.Steps.{kept};
-ghost use Rattle.st_words.specs.Views.{no_load};
+ghost use Rattle.st_words.specs.Views.{no_cargo};
 ghost use Rattle.st_stack.specs.Trying.{exporting};
 
 use crate::stack::{PhysStack, Shrunk};
 use st_base::chain::Frame;
 use st_base::limits::Limits;
-use st_words::board::{Board, Next};
+use st_words::board::{Board, NamesView};
 use st_words::plain::PlainBoard;
 use std::alloc::{AllocError, Global};
 use std::marker::Brand;
@@ -28,10 +28,10 @@ const UPPER_RETURN: u32 = 8191;
 /// Names the view after a step of a worker that has exported a frame where it looks at one.
 struct Exporting;
 
-impl Next for Exporting {
+impl NamesView for Exporting {
     ghost after = { λ v s a. named (progress_of v) (exporting v s) s a };
 
-    ghost load = { λ _ _ _. no_load };
+    ghost cargo = { λ _ _ _. no_cargo };
 }
 
 fn upper() -> Frame
@@ -85,50 +85,39 @@ impl Lone {
         self.board.stack_store::<Exporting>(0, place, value);
     }
 
-    fn shrink(&mut self, stack: &mut PhysStack, sp: u64) -> Shrunk
+    fn shrink(&mut self, stack: &mut PhysStack, sp: u64, top: Option<Frame>) -> Shrunk
         requires { (stack.old.lo ≡ 0x8000_0000) × (stack.old.hi ≡ 0x8001_0000) }
         ensures { (stack.new.lo ≡ 0x8000_0000) × (stack.new.hi ≡ 0x8001_0000) }
     {
-        stack.shrink_step::<PlainBoard, Exporting>(&mut self.board, 0, sp, None)
+        stack.shrink_step::<PlainBoard, Exporting>(&mut self.board, 0, sp, top)
     }
 }
 
 #[test]
-fn frames_are_taken_back_in_their_order(rt: HostRuntime) -> Result<(), Fail> {
+fn frames_are_exported_once_and_taken_back_in_their_order(rt: HostRuntime) -> Result<(), Fail> {
     let mut lone = Lone::open(rt.alloc())?;
     let mut stack = PhysStack::open(rt.alloc(), LOW, HIGH)?;
-    assert_eq!(rt; stack.limit(), HIGH);
+    let is_open = stack.limit() == HIGH;
     lone.store(LOWER_RETURN, 0x30);
     lone.store(UPPER_RETURN, 0x30);
-    assert!(rt; !stack.is_exported(upper()));
-    assert!(rt; stack.export(upper()));
-    assert!(rt; !stack.export(upper()));
-    assert!(rt; stack.export(lower()));
-    assert!(rt; stack.is_exported(upper()));
-    assert!(rt; stack.is_exported(lower()));
-    assert_eq!(rt; stack.limit(), 0x8000_ffa0);
+    let is_first = stack.export(upper());
+    let is_again = stack.export(upper());
+    let is_second = stack.export(lower());
+    let is_there = stack.is_exported(lower());
+    let is_on = stack.is_on(lower());
     let sp = 0x8000_ffa0;
-    assert_eq!(rt; lone.shrink(&mut stack, sp), Shrunk::Done { sp });
+    let is_limited = stack.limit() == sp;
+    assert!(rt; is_open & is_first & !is_again & is_second & is_there & is_on & is_limited);
+    let is_held = lone.shrink(&mut stack, sp, None) == Shrunk::Done { sp };
     lone.store(LOWER_RETURN, 0);
-    assert_eq!(rt; lone.shrink(&mut stack, sp), Shrunk::More);
-    assert_eq!(rt;
-        lone.shrink(&mut stack, sp),
-        Shrunk::Done { sp: 0x8000_ffc0 }
-    );
-    assert!(rt; stack.is_exported(upper()));
-    assert!(rt; !stack.is_exported(lower()));
+    let is_back = lone.shrink(&mut stack, sp, None) == Shrunk::More;
+    let is_raised = lone.shrink(&mut stack, sp, None) == Shrunk::Done { sp: 0x8000_ffc0 };
+    let stays = stack.is_exported(upper());
+    assert!(rt; is_held & is_back & is_raised & stays);
     lone.store(UPPER_RETURN, 0);
-    assert_eq!(rt; lone.shrink(&mut stack, sp), Shrunk::More);
-    assert_eq!(rt; lone.shrink(&mut stack, sp), Shrunk::Done { sp: HIGH });
-    Ok(())
-}
-
-#[test]
-fn sp_stays_below_the_lowest_frame_that_is_not_exported(rt: HostRuntime) -> Result<(), Fail> {
-    let mut lone = Lone::open(rt.alloc())?;
-    let mut stack = PhysStack::open(rt.alloc(), LOW, HIGH)?;
-    let sp = 0x8000_ff00;
-    let shrunk = stack.shrink_step::<PlainBoard, Exporting>(&mut lone.board, 0, sp, Some(lower()));
-    assert_eq!(rt; shrunk, Shrunk::Done { sp: 0x8000_ffa0 });
+    let is_back = lone.shrink(&mut stack, sp, None) == Shrunk::More;
+    let is_raised = lone.shrink(&mut stack, sp, None) == Shrunk::Done { sp: HIGH };
+    let is_lowered = lone.shrink(&mut stack, sp, Some(lower())) == Shrunk::Done { sp };
+    assert!(rt; is_back & is_raised & is_lowered);
     Ok(())
 }

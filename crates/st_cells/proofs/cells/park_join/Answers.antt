@@ -1,6 +1,9 @@
 use Rattle.std.proofs.Common.{rules, subst}
-use Rattle.st_words.specs.Steps.{Asks, CellChange}
+use Rattle.st_words.specs.Made.{Asked}
+use Rattle.st_words.specs.Steps.{CellChange}
 use Rattle.st_cells.proofs.cells.park_join.Goals as goal
 
-pub change-requires-clause-may : goal.change-requires-clause-may
-change-requires-clause-may g c = subst (λ n. Asks (g.B.Board.says c.args.board.now c.args.w) (g.B.Board.forward c.args.board.now) (g.B.Board.moves c.args.board.now) g.N.Next.after (g.B.Board.view c.args.board.now c.args.w) (CellChange c.args.cell c.args.seen n)) (search rules) c.requires.may
+pub change-requires : goal.change-requires
+change-requires g c = record {
+  may = subst (λ n. Asked g.B.Board.view g.B.Board.serves g.B.Board.says g.B.Board.forward g.B.Board.moves g.N.NamesView.after c.args.board.now c.args.w (CellChange c.args.cell c.args.seen n)) (search rules) c.requires.may;
+}

@@ -4,15 +4,15 @@ use Rattle.st_words.specs.Steps.{CellChange, Number}
 use Rattle.st_cells.proofs.Trying.{asks_done, cells_kept}
 use Rattle.st_cells.proofs.tests.Held.done.Goals as goal
 
-pub done-requires-clause-may : goal.done-requires-clause-may
-done-requires-clause-may c =
+pub done-requires : goal.done-requires
+done-requires c =
     let s = c.args.self.now in
-    asks_done (Exact s.board.words s.board.kept.loads 0) (view_at s.board.kept.views 0) c.args.cell c.args.seen s.cells c.requires.within c.requires.counter
+    record { may = record { serves = s.serves; may = asks_done (Exact s.board.words s.board.kept.cargoes 0) (view_at s.board.kept.views 0) c.args.cell c.args.seen s.cells c.requires.within c.requires.counter } }
 
 pub invariant_of-self : goal.invariant_of-self
 invariant_of-self c =
     let s = c.args.self.now in
     record {
-      serves = c.done.ensures.serves;
-      cells = cells_kept (view_at s.board.kept.views 0) (view_at c.done.new.board.kept.views 0) (CellChange c.args.cell c.args.seen (counter_word (count_after (count_in c.args.seen)) 0)) (Number c.done.ensures.made.0) c.done.ensures.made.1.2 s.cells;
+      serves = c.done.ensures.made.1.serves;
+      cells = cells_kept (view_at s.board.kept.views 0) (view_at c.done.new.board.kept.views 0) (CellChange c.args.cell c.args.seen (counter_word (count_after (count_in c.args.seen)) 0)) (Number c.done.ensures.made.0) c.done.ensures.made.1.view s.cells;
     }

@@ -5,15 +5,15 @@ use Rattle.st_words.specs.Steps.{CellLoad, Number}
 use Rattle.st_cells.proofs.Trying.{asks_load, cells_kept}
 use Rattle.st_cells.proofs.tests.Held.look.Goals as goal
 
-pub look-requires-clause-may : goal.look-requires-clause-may
-look-requires-clause-may c =
+pub look-requires : goal.look-requires
+look-requires c =
     let s = c.args.self.now in
-    asks_load (Exact s.board.words s.board.kept.loads 0) (view_at s.board.kept.views 0) 1 words.State s.cells (omega arith)
+    record { may = record { serves = s.serves; may = asks_load (Exact s.board.words s.board.kept.cargoes 0) (view_at s.board.kept.views 0) 1 words.State s.cells (omega arith) } }
 
 pub invariant_of-self : goal.invariant_of-self
 invariant_of-self c =
     let s = c.args.self.now in
     record {
-      serves = c.look.ensures.serves;
-      cells = cells_kept (view_at s.board.kept.views 0) (view_at c.look.new.board.kept.views 0) (CellLoad 1 words.State) (Number c.look.ensures.made.0) c.look.ensures.made.1.2 s.cells;
+      serves = c.look.ensures.made.1.serves;
+      cells = cells_kept (view_at s.board.kept.views 0) (view_at c.look.new.board.kept.views 0) (CellLoad 1 words.State) (Number c.look.ensures.made.0) c.look.ensures.made.1.view s.cells;
     }

@@ -5,15 +5,15 @@ use Rattle.st_words.specs.Steps.{CellLoad, Number}
 use Rattle.st_cells.proofs.Trying.{asks_load, cells_kept}
 use Rattle.st_cells.proofs.tests.Held.value.Goals as goal
 
-pub value-requires-clause-may : goal.value-requires-clause-may
-value-requires-clause-may c =
+pub value-requires : goal.value-requires
+value-requires c =
     let s = c.args.self.now in
-    asks_load (Exact s.board.words s.board.kept.loads 0) (view_at s.board.kept.views 0) 1 words.Value s.cells (omega arith)
+    record { may = record { serves = s.serves; may = asks_load (Exact s.board.words s.board.kept.cargoes 0) (view_at s.board.kept.views 0) 1 words.Value s.cells (omega arith) } }
 
 pub invariant_of-self : goal.invariant_of-self
 invariant_of-self c =
     let s = c.args.self.now in
     record {
-      serves = c.value.ensures.serves;
-      cells = cells_kept (view_at s.board.kept.views 0) (view_at c.value.new.board.kept.views 0) (CellLoad 1 words.Value) (Number c.value.result) c.value.ensures.made.2 s.cells;
+      serves = c.value.ensures.made.serves;
+      cells = cells_kept (view_at s.board.kept.views 0) (view_at c.value.new.board.kept.views 0) (CellLoad 1 words.Value) (Number c.value.result) c.value.ensures.made.view s.cells;
     }
