@@ -1,0 +1,18 @@
+use Rattle.std.proofs.Common.{◌≡◌, ◌∙◌, ap, length, arith}
+use Rattle.st_words.specs.Plain.{view_at}
+use Rattle.st_words.proofs.Opening.{first_view_at, first_views_count}
+use Rattle.st_steal.proofs.Trying.{first_fits}
+use Rattle.st_steal.proofs.tests.opened.Goals as goal
+
+pub returns-clause-serves : goal.returns-clause-serves
+returns-clause-serves c =
+    let board = c.in_ok-board.board in
+    let count : length board.kept.views ≡ 2 = first_views_count c.limits-limits.result 2 board.kept.views c.in_ok-board.ensures.views in
+    omega (arith, count)
+
+pub returns-clause-fits : goal.returns-clause-fits
+returns-clause-fits c =
+    let board = c.in_ok-board.board in
+    let limits = c.limits-limits.result in
+    let views = c.in_ok-board.ensures.views in
+    first_fits limits (view_at board.kept.views 0) (view_at board.kept.views 1) (ap (λ vs. view_at vs 0) views ∙ first_view_at limits 2 0 (omega arith)) (ap (λ vs. view_at vs 1) views ∙ first_view_at limits 2 1 (omega arith))

@@ -1,0 +1,4 @@
+pub mod Words
+pub mod Ready
+pub mod Laws
+pub mod Trying
