@@ -9,7 +9,7 @@ use Rattle.st_line.specs.declared.source.Target.TheVariants as targets
 use Rattle.st_line.specs.declared.source.SourceIns.{SourceIns}
 use Rattle.st_line.specs.declared.source.SourceIns.TheVariants as source
 use Rattle.st_asm.specs.declared.unit.Function.{Function}
-use Rattle.st_asm.specs.declared.entries.TheConstants.{ENTRIES}
+use Rattle.st_asm.specs.Labels.{entry_at}
 use Rattle.st_line.specs.Operands.{named_in}
 use Rattle.st_model.specs.declared.program.Item.{Item}
 use Rattle.st_model.specs.declared.program.ItemKind.{ItemKind}
@@ -35,7 +35,7 @@ function_place functions name = place_from 0 name functions
 
 -- the address of the entry of a name
 abbrev pub entry_address : List ℕ → ℕ
-entry_address name = number_or (named_in (map (λ p. (p.0, p.1.now)) ENTRIES) name)
+entry_address name = number_or (entry_at name)
 
 -- ---- places
 

@@ -38,7 +38,8 @@ impl Checked<'_> {
 
     /// Its program.
     pub fn program(&self) -> &Program
-        ensures { result.now ≡ self.now.program }
+        ensures program { result.now ≡ self.now.program }
+        ensures accepted { ∥ IsAccepted result.now ∥₁ }
     {
         &self.program
     }

@@ -15,13 +15,11 @@ use crate::shape::{Formed, Shape, first_line, shape_of};
 use st_asm::{Function, SourceIns, Target, entry_at};
 use st_base::line::Line;
 use st_base::lists::Listed;
+use st_base::map::DATA_START;
 use st_base::reg::Reg;
 use st_model::program::{Item, ItemKind, Program, ProgramFunction};
 use std::alloc::{AllocError, Global};
 use std::collections::BTreeMap;
-
-/// The address at which the read-only data stand.
-const RODATA_BASE: i64 = 0x2000_0000;
 
 /// A number as 32 bits; there is no room for what 2^32 stands for.
 fn small(n: usize) -> Result<u32, AllocError>
@@ -79,7 +77,7 @@ fn data_address(to: &Target) -> i64
     ensures { result ≡ data_address to.now }
 {
     match to {
-        Target::Data { offset } => RODATA_BASE + i64::from(*offset),
+        Target::Data { offset } => i64::from(DATA_START) + i64::from(*offset),
         _ => 0,
     }
 }

@@ -9,4 +9,6 @@ mod posting;
 #[cfg(test)]
 mod programs;
 #[cfg(test)]
+mod running;
+#[cfg(test)]
 mod texts;

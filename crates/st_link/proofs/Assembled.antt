@@ -14,7 +14,7 @@ use Rattle.st_model.specs.declared.code.PostedIns.{PostedIns}
 use Rattle.st_model.specs.declared.code.PostedIns.TheVariants as posted
 use Rattle.st_model.specs.declared.code.PostedWord.{PostedWord}
 use Rattle.st_model.specs.Accepted.{IsAccepted}
-use Rattle.st_model.specs.Layout.{HasSize, IsImageOf, AreWords, upper_ins, first_of, far_among, far_in, far_branch, function_words, function_size, functions_size, function_address, rows_from, rows_of, forks_of, resolved, resolved_words, resolved_from, code_of, words_of_all, program_words}
+use Rattle.st_model.specs.Layout.{HasSize, IsImageOf, IsCodeOf, AreWords, upper_ins, first_of, far_among, far_in, far_branch, function_words, function_size, functions_size, function_address, rows_from, rows_of, forks_of, resolved, resolved_words, resolved_from, code_of, words_of_all, program_words}
 use Rattle.st_post.specs.declared.posted.PostedFunction.{PostedFunction}
 use Rattle.st_link.specs.Encoding.{words_in, joined, total, first_far_of, told, start_in, resolved_by, resolved_in, resolved_all, AllFit, IsCalled, AreCalled, AllCalled, IsAssembled, IsEncodable}
 use Rattle.std.proofs.Math.Logic.{∥∥₁_elim, ∥∥₁_map}
@@ -26,7 +26,7 @@ use Rattle.st_post.specs.declared.layout.Code.{Code}
 use Rattle.st_post.specs.Code.{IsCode}
 use Rattle.st_link.specs.declared.error.LinkFault.{LinkFault}
 use Rattle.st_link.proofs.Sizes.{function-length}
-use Rattle.st_link.proofs.CodeSize.{code-size}
+use Rattle.st_model.proofs.CodeSize.{code_within}
 use Rattle.st_link.proofs.ItemsReady.{code-fits, code-called}
 
 -- ---- rows
@@ -143,7 +143,7 @@ encodable layout p functions rows laid is none =
     let same = resolved-code layout p calls in
     let here : resolved_all rows 0x10000 (words_in functions) ≡ code_of layout p = (λ i. resolved_all (laid.rows_are i) 0x10000 (laid.words i)) ∙ same in
     let count : length p.functions ≡ length rows = sym (ap length laid.rows_are ∙ rows-length layout p) in
-    let size : functions_size layout p.functions ≤ 196608 = ∥∥₁_elim is le_prop (λ h. code-size layout p h.accepted h.size) in
+    let size : functions_size layout p.functions ≤ 196608 = ∥∥₁_elim is le_prop (λ h. code_within layout p h.accepted h.size) in
     record {
       fits = ∥∥₁_map is (λ h. subst AllFit (sym here) (code-fits layout p h.accepted h.size none));
       calls = subst (λ n. AllCalled n (words_in functions)) count (subst (AllCalled (length p.functions)) (sym laid.words) calls);
@@ -189,3 +189,10 @@ checked-image layout checked code functions rows forks image is fs rs ks none ma
 
 pub checked-told : (checked : Checked) (code : Code) (functions : List PostedFunction) (result : Option LinkFault) → IsCode Postprocessed checked code → functions ≡ code.functions → told result ≡ first_far_of (words_in functions) → far_branch checked.program ≡ told result
 checked-told checked code functions result is fs tells = far-told checked.program functions result (ap words_in fs ∙ is.words) tells
+
+-- an image of an accepted program is its code
+pub code-of : (layout : Layout) (p : Program) (rodata : List ℕ) (image : Image) → ∥ IsAcceptedWithSize p ∥₁ → IsImageOf layout p rodata image → ∥ IsCodeOf layout p image ∥₁
+code-of layout p rodata image accepted is =
+    ∥∥₁_map accepted (λ a.
+    let r : IsCodeOf layout p image = record { accepted = a.accepted; size = a.size; is_image = subst (λ bytes. IsImageOf layout p bytes image) (sym is.bytes) is } in
+    r)

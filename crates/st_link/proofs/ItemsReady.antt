@@ -21,7 +21,7 @@ use Rattle.std.proofs.lemmas.Option.{slice_get_within}
 use Rattle.st_model.specs.declared.code.PostedWord.{PostedWord}
 use Rattle.st_link.specs.Encoding.{AllFit, IsCalled, AreCalled, AllCalled}
 use Rattle.st_link.proofs.PartsReady.{li-ready, saved-length, prologue-ready, epilogue-ready, restoring-ready, freeing-ready, copy-ready}
-use Rattle.st_link.proofs.CodeSize.{code-size}
+use Rattle.st_model.proofs.CodeSize.{code_within}
 use Rattle.st_link.proofs.Sizes.{take-items, restoring-length, words-length, item-length, function-length}
 use Rattle.st_link.proofs.Near.{IsNear, near-in, branch-each}
 use Rattle.st_link.proofs.Ready.{IsReady, AreReady, AreReadyWords, ready-append, ready-words, words-append, fit-append, words-fit}
@@ -105,7 +105,7 @@ each-ready layout p accepted size none f function here low = function-ready layo
 pub code-fits : (layout : Layout) (p : Program) → IsAccepted p → HasSize p → far_branch p ≡ None → AllFit (code_of layout p)
 unfolding code_of
 code-fits layout p accepted size none =
-    let small = code-size layout p accepted size in
+    let small = code_within layout p accepted size in
     functions-fit layout p 0x10000 16384 p.functions small refl (omega (arith, small)) (each-ready layout p accepted size none)
 
 called-words : (n at : ℕ) (ws : List PostedWord) → AreReadyWords n at ws → AreCalled n ws
@@ -120,4 +120,4 @@ functions-called layout n most (f ∷ fs) small low ready =
 -- each call goes to a function that there is
 pub code-called : (layout : Layout) (p : Program) → IsAccepted p → HasSize p → far_branch p ≡ None → AllCalled (length p.functions) (map (function_words layout) p.functions)
 code-called layout p accepted size none =
-    functions-called layout (length p.functions) 196608 p.functions (code-size layout p accepted size) (lit< tt) (each-ready layout p accepted size none)
+    functions-called layout (length p.functions) 196608 p.functions (code_within layout p accepted size) (lit< tt) (each-ready layout p accepted size none)

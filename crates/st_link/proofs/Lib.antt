@@ -1,4 +1,3 @@
-mod CodeSize
 mod Sizes
 mod Rows
 mod Distances

@@ -7,14 +7,12 @@ ghost use Rattle.st_link.specs.Encoding.{words_in, joined, total, resolved_by, r
 use crate::far::distance;
 use st_base::image::FrameRow;
 use st_base::line::Line;
+use st_base::map::CODE_START;
 use st_base::reg::Reg;
 use st_post::{PostedFunction, PostedIns, PostedWord};
 use st_rv::code::encode;
 use st_rv::ins::{Ins, Op};
 use std::alloc::{AllocError, Global};
-
-/// Where the code begins.
-const CODE_START: u32 = 0x10000;
 
 /// `jal` over a distance.
 fn jump_by(rd: Reg, imm: i64) -> Ins

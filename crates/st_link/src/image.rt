@@ -1,7 +1,7 @@
 //! Images of accepted units.
 ghost use Rattle.std.specs.Prelude.{IfOk, IfErr};
 ghost use Rattle.st_model.specs.declared.code.Layout.TheVariants.{Postprocessed, Unchanged};
-ghost use Rattle.st_model.specs.Layout.{IsImageOf};
+ghost use Rattle.st_model.specs.Layout.{IsImageOf, IsCodeOf};
 ghost use Rattle.st_link.specs.Refusal.{IsRefusal};
 ghost use Rattle.st_link.specs.Encoding.{IsEncodable, IsAssembled};
 
@@ -48,6 +48,7 @@ fn assemble(
 /// Errors: the first branch that doesn't reach, by its line, where there is one; or too little memory.
 pub fn link(alloc: Global, posted: &Posted<'_>) -> Result<Image, LinkError>
     ensures image { IfOk result (IsImageOf Postprocessed posted.now.checked.now.program posted.now.checked.now.unit.now.rodata) }
+    ensures code { IfOk result (λ image. ∥ IsCodeOf Postprocessed posted.now.checked.now.program image ∥₁) }
     ensures fault { IfErr result (IsRefusal posted.now.checked.now.program) }
 {
     if let Some(fault) = first_far(posted.functions()) {
@@ -68,6 +69,7 @@ pub fn link(alloc: Global, posted: &Posted<'_>) -> Result<Image, LinkError>
 /// Errors: the first branch that doesn't reach in the postprocessed code, by its line, where there is one; or too little memory.
 pub fn link_plain(alloc: Global, checked: &Checked<'_>) -> Result<Image, LinkError>
     ensures image { IfOk result (IsImageOf Unchanged checked.now.program checked.now.unit.now.rodata) }
+    ensures code { IfOk result (λ image. ∥ IsCodeOf Unchanged checked.now.program image ∥₁) }
     ensures fault { IfErr result (IsRefusal checked.now.program) }
 {
     let processed = lay_out(alloc, checked, Layout::Postprocessed)?;

@@ -1,4 +1,3 @@
-pub mod CodeSize
 pub mod ItemPlaces
 pub mod ProgramLengths
 pub mod SavedRegisters

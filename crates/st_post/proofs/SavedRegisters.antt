@@ -13,7 +13,7 @@ use Rattle.st_model.specs.declared.program.ItemKind.{ItemKind}
 use Rattle.st_model.specs.declared.program.ItemKind.TheVariants as items
 use Rattle.st_model.specs.declared.program.ProgramFunction.{ProgramFunction}
 use Rattle.st_model.specs.Layout.{saveable, saved_among, saved_of, li_ins, copy_by, item_size, items_size, function_size}
-use Rattle.st_post.proofs.CodeSize.{copy-few, li-few}
+use Rattle.st_model.proofs.CodeSize.{copy-few, li-few}
 
 one-more : {A : Type 0} (n : ℕ) (b : Bool) (x : A) (xs ys : List A) → length xs ≤ n → length ys ≤ n → length (cond b (x ∷ xs) ys) ≤ n + 1
 one-more n true x xs ys h k = omega arith

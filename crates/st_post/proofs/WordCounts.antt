@@ -13,7 +13,7 @@ use Rattle.st_model.specs.declared.program.ItemKind.{ItemKind}
 use Rattle.st_model.specs.declared.program.ItemKind.TheVariants as items
 use Rattle.st_model.specs.declared.program.ProgramFunction.{ProgramFunction}
 use Rattle.st_model.specs.Layout.{stores, loads, saved_of, copy_by, item_size, items_size, function_size, item_ins, words_at, items_words, function_line, function_words}
-use Rattle.st_post.proofs.CodeSize.{length-loads}
+use Rattle.st_model.proofs.CodeSize.{length-loads}
 
 length-stores : (base : Reg) (top : ℤ) (k : ℕ) (saved : List Reg) → length (stores base top k saved) ≡ length saved
 length-stores base top k [] = refl

@@ -1,4 +1,4 @@
--- How large the code of an accepted program can be: three words for each of its 65,536 lines (proofs/CodeSize.antt says why).
+-- How large the code of an accepted program can be: three words for each of its 65,536 lines (proofs/CodeSize.antt of the model says why).
 use Rattle.std.specs.Prelude.{ℕ, ◌+◌, ◌*◌}
 use Rattle.st_model.specs.Layout.{code_start}
 

@@ -9,16 +9,11 @@ use crate::frames::{push_augmented, push_epilogue, push_prologue, push_pure_copy
 use crate::li::push_li;
 use crate::saved::saved_of;
 use crate::sizes::{place_of, places};
+use st_base::entry::Entry;
 use st_base::reg::Reg;
 use st_model::code::{Layout, PostedIns};
 use st_model::program::{ItemKind, ProgramFunction};
 use std::alloc::{AllocError, Global};
-
-/// The address of `st_fork_in`.
-const FORK_IN: u32 = 0x10;
-
-/// The address of `st_fork_out`.
-const FORK_OUT: u32 = 0x20;
 
 /// A function with what is settled before its words are pushed.
 #[derive(Drop)]
@@ -89,9 +84,13 @@ pub(crate) fn push_copy(out: &mut Vec<PostedIns>, plan: &Plan<'_>) -> Result<(),
 fn push_fork(out: &mut Vec<PostedIns>, function: u32) -> Result<(), AllocError>
     ensures { OnOk result (out.new.items ≡ out.old.items ++ posted.Entry fork_in ∷ posted.Call function ∷ posted.Entry fork_out ∷ []) }
 {
-    out.push(PostedIns::Entry { at: FORK_IN })?;
+    out.push(PostedIns::Entry {
+        at: Entry::ForkIn.address(),
+    })?;
     out.push(PostedIns::Call { function })?;
-    out.push(PostedIns::Entry { at: FORK_OUT })?;
+    out.push(PostedIns::Entry {
+        at: Entry::ForkOut.address(),
+    })?;
     Ok(())
 }
 

@@ -7,12 +7,10 @@ use crate::sizes::{function_size, item_size, items_size};
 use crate::words::function_line;
 use st_base::image::{ForkRow, FrameRow};
 use st_base::lists::Listed;
+use st_base::map::CODE_START;
 use st_model::code::Layout;
 use st_model::program::{ItemKind, ProgramFunction};
 use std::alloc::{AllocError, Global};
-
-/// The address of the first word of the code.
-const CODE_START: u32 = 0x1_0000;
 
 /// Where the pure copy of a function stands whose first word is at an address; 0 where there is none.
 fn pure_place(layout: Layout, from: u32, function: &ProgramFunction) -> u32

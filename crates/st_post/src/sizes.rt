@@ -53,7 +53,7 @@ pub(crate) fn items_size(layout: Layout, function: &ProgramFunction) -> u32
 }
 
 /// How many words the pure copy of a function's epilogue has.
-#[tactic(auto, using(crate::proofs::CodeSize::copy_length))]
+#[tactic(auto, using(st_model::proofs::CodeSize::copy_length))]
 fn copy_size(layout: Layout, function: &ProgramFunction) -> u32
     ensures value { result ≡ length (copy_by layout function.now) }
     ensures few { result ≤ 15 }

@@ -3,7 +3,7 @@ use Rattle.std.proofs.Common.{◌∙◌, ap, sym, subst}
 use Rattle.st_check.specs.declared.accept.Checked.{Checked}
 use Rattle.st_model.specs.declared.code.Layout.TheVariants.{Postprocessed}
 use Rattle.st_link.specs.Encoding.{told, IsEncodable, IsAssembled}
-use Rattle.st_link.proofs.Assembled.{checked-told, checked-encodable, checked-image}
+use Rattle.st_link.proofs.Assembled.{checked-told, checked-accepted, checked-encodable, checked-image, code-of}
 use Rattle.st_link.proofs.FarLines.{first-far}
 use Rattle.st_link.proofs.image.link.Goals as goal
 
@@ -26,3 +26,8 @@ returns-clause-image c =
     let none = checked-told posted.checked.now posted.code c.functions.result.now c.first_far.result posted.is_code c.functions.ensures c.first_far.ensures ∙ ap told c.in_default.is in
     checked-image Postprocessed posted.checked.now posted.code c.functions-2.result.now c.rows.result.now c.forks.result.now c.in_ok-image.image posted.is_code c.functions-2.ensures c.rows.ensures c.forks.ensures none
     (subst (λ (k : Checked). IsAssembled c.functions-2.result.now c.rows.result.now c.forks.result.now k.unit.now.rodata k.program.main c.in_ok-image.image) c.checked.ensures c.in_ok-image.ensures)
+
+pub returns-clause-code : goal.returns-clause-code
+returns-clause-code c =
+    let posted = c.args.posted.now in
+    code-of Postprocessed posted.checked.now.program posted.checked.now.unit.now.rodata c.in_ok-image.image (checked-accepted posted.checked.now) (returns-clause-image c)

@@ -1,5 +1,5 @@
 use Rattle.std.proofs.Common.{arith}
-use Rattle.st_post.proofs.CodeSize.{function_size-within}
+use Rattle.st_model.proofs.CodeSize.{function_size-within}
 use Rattle.st_post.proofs.layout.functions_of.Goals as goal
 
 pub function_words-requires : goal.function_words-requires

@@ -6,7 +6,7 @@ use Rattle.st_model.specs.declared.program.ProgramFunction.{ProgramFunction}
 use Rattle.st_model.specs.Accepted.{IsAccepted}
 use Rattle.st_model.specs.Layout.{HasSize, functions_size}
 use Rattle.st_post.specs.Size.{most_words}
-use Rattle.st_post.proofs.CodeSize.{code_fits}
+use Rattle.st_model.proofs.CodeSize.{code_fits}
 use Rattle.st_post.proofs.ProgramLengths.{same_length}
 use Rattle.st_post.proofs.layout.lay_out.Goals as goal
 
@@ -15,18 +15,18 @@ fits layout functions p are accepted size = subst (λ fs. functions_size layout 
 
 pub functions_of-requires-clause-size : goal.functions_of-requires-clause-size
 functions_of-requires-clause-size c =
-    fits c.args.layout c.as_slice-functions.result.now c.args.checked.now.program (c.as_slice-functions.ensures ∙ ap (λ (p : Program). p.functions) c.program.ensures) c.args.checked.now.is_accepted c.args.checked.now.has_size
+    fits c.args.layout c.as_slice-functions.result.now c.args.checked.now.program (c.as_slice-functions.ensures ∙ ap (λ (p : Program). p.functions) c.program.ensures.program) c.args.checked.now.is_accepted c.args.checked.now.has_size
 
 pub functions_of-requires-clause-same : goal.functions_of-requires-clause-same
 functions_of-requires-clause-same c =
     ap (λ (fs : List Function). length fs) (c.functions.ensures ∙ (λ j. (c.unit.ensures j).functions))
     ∙ sym (same_length c.args.checked.now.unit.now.functions c.args.checked.now.program c.args.checked.now.is_program)
-    ∙ ap (λ (fs : List ProgramFunction). length fs) (sym (c.as_slice-functions.ensures ∙ ap (λ (p : Program). p.functions) c.program.ensures))
+    ∙ ap (λ (fs : List ProgramFunction). length fs) (sym (c.as_slice-functions.ensures ∙ ap (λ (p : Program). p.functions) c.program.ensures.program))
 
 pub rows_of-requires : goal.rows_of-requires
 rows_of-requires c =
-    fits c.args.layout c.as_slice-functions.result.now c.args.checked.now.program (c.as_slice-functions.ensures ∙ ap (λ (p : Program). p.functions) c.program.ensures) c.args.checked.now.is_accepted c.args.checked.now.has_size
+    fits c.args.layout c.as_slice-functions.result.now c.args.checked.now.program (c.as_slice-functions.ensures ∙ ap (λ (p : Program). p.functions) c.program.ensures.program) c.args.checked.now.is_accepted c.args.checked.now.has_size
 
 pub forks_of-requires : goal.forks_of-requires
 forks_of-requires c =
-    fits c.args.layout c.as_slice-functions.result.now c.args.checked.now.program (c.as_slice-functions.ensures ∙ ap (λ (p : Program). p.functions) c.program.ensures) c.args.checked.now.is_accepted c.args.checked.now.has_size
+    fits c.args.layout c.as_slice-functions.result.now c.args.checked.now.program (c.as_slice-functions.ensures ∙ ap (λ (p : Program). p.functions) c.program.ensures.program) c.args.checked.now.is_accepted c.args.checked.now.has_size
