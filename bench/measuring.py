@@ -5,6 +5,8 @@ import sys
 
 TOP = os.path.dirname(os.path.dirname(os.path.realpath(__file__)))
 MOST_GROWTH = 2.3
+# the status of ./st_main where it could not build the program
+NOT_BUILT = 126
 MOST_MEMORY = 256 * 1024 * 1024
 
 
@@ -12,7 +14,9 @@ def built_program():
     """The program to time: the one that the caller names, else that of ./st_main, which builds it first where it has to."""
     if sys.argv[1:]:
         return sys.argv[1]
-    subprocess.run([f"{TOP}/st_main"], stdout=subprocess.DEVNULL, stderr=subprocess.DEVNULL)
+    built = subprocess.run([f"{TOP}/st_main"], stdout=subprocess.DEVNULL, stderr=subprocess.PIPE)
+    if built.returncode == NOT_BUILT:
+        raise SystemExit(built.stderr.decode(errors="replace") + "the program was not built")
     return f"{TOP}/crates/st_main/out/st_main"
 
 

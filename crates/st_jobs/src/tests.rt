@@ -1,97 +1,111 @@
 //! What no clause says: that calls succeed while there is memory, and that the definition of a command line means what was
 //! meant. A line is cut into words at each blank.
-use crate::{GenArgs, Job, Names, RunArgs, SimArgs, WordsError, read_words};
+use crate::{Job, RunArgs, WordsError, read_words};
 use std::alloc::{AllocError, Global};
 use std::test::Fail;
 
-fn words_of(alloc: Global, line: &str) -> Result<Vec<String>, AllocError> {
+/// The words of a line, and behind them one word more, so many times.
+fn words_of(
+    alloc: Global,
+    line: &str,
+    more: &str,
+    count: usize,
+) -> Result<Vec<String>, AllocError> {
     let mut words = Vec::new(alloc);
     for word in line.split(' ') {
         words.push(String::from_str(alloc, word)?)?;
     }
+    for _ in 0..count {
+        words.push(String::from_str(alloc, more)?)?;
+    }
     Ok(words)
 }
 
-fn job_of(alloc: Global, line: &str) -> Result<Job, WordsError> {
-    let words = words_of(alloc, line)?;
-    read_words(alloc, words.as_slice())
+/// The workers and limits of a run.
+fn run_text(alloc: Global, args: &RunArgs) -> Result<String, AllocError> {
+    let limits = &args.limits;
+    format!(in alloc;
+        "{} {} {} {}",
+        args.workers, limits.stack, limits.cells, limits.steps
+    )
 }
 
-fn is_usage(outcome: Result<Job, WordsError>) -> Result<bool, WordsError> {
-    match outcome {
-        Ok(_) => Ok(false),
-        Err(WordsError::Usage) => Ok(true),
-        Err(error) => Err(error),
+/// A job's command, what it is given, and each of its files behind a bar.
+fn job_text(alloc: Global, job: &Job) -> Result<String, AllocError> {
+    let mut text = match job {
+        Job::Run(args) => format!(in alloc; "run {}", run_text(alloc, args)?)?,
+        Job::Plain(args) => format!(in alloc; "plain {}", run_text(alloc, args)?)?,
+        Job::Sim(sim) => {
+            let args = run_text(alloc, &sim.args)?;
+            format!(in alloc; "sim {args} {} {:?}", sim.turns, sim.schedule.as_slice())?
+        }
+        Job::Check(_) => String::from_str(alloc, "check")?,
+        Job::Post(_) => String::from_str(alloc, "post")?,
+        Job::Gen(args) => format!(in alloc; "gen {} {}", args.number, args.workers)?,
+    };
+    for file in job.files() {
+        text.push('|')?;
+        text.push_str(file.as_str())?;
     }
-}
-
-fn run_of(job: Job) -> Option<RunArgs> {
-    match job {
-        Job::Run(args) => Some(args),
-        _ => None,
-    }
-}
-
-fn plain_of(job: Job) -> Option<RunArgs> {
-    match job {
-        Job::Plain(args) => Some(args),
-        _ => None,
-    }
-}
-
-fn sim_of(job: Job) -> Option<SimArgs> {
-    match job {
-        Job::Sim(args) => Some(args),
-        _ => None,
-    }
-}
-
-fn checked_names(job: Job) -> Option<Names> {
-    match job {
-        Job::Check(names) => Some(names),
-        _ => None,
-    }
-}
-
-fn posted_names(job: Job) -> Option<Names> {
-    match job {
-        Job::Post(names) => Some(names),
-        _ => None,
-    }
-}
-
-fn gen_of(job: Job) -> Option<GenArgs> {
-    match job {
-        Job::Gen(args) => Some(args),
-        _ => None,
-    }
-}
-
-/// `sim` with a schedule of so many zeros.
-fn sim_turns(alloc: Global, length: usize) -> Result<Result<Job, WordsError>, AllocError> {
-    let mut schedule = String::new(alloc);
-    for _ in 0..length {
-        schedule.push('0')?;
-    }
-    let mut words = words_of(alloc, "sim a.s --schedule")?;
-    words.push(schedule)?;
-    Ok(read_words(alloc, words.as_slice()))
-}
-
-/// `check` with so many files.
-fn check_files(alloc: Global, count: usize) -> Result<Result<Job, WordsError>, AllocError> {
-    let mut words = words_of(alloc, "check")?;
-    for _ in 0..count {
-        words.push(String::from_str(alloc, "a.s")?)?;
-    }
-    Ok(read_words(alloc, words.as_slice()))
+    Ok(text)
 }
 
 #[test]
-fn wrong_words(rt: HostRuntime) -> Result<(), Fail> {
+fn words_give_their_jobs(rt: HostRuntime) -> Result<(), Fail> {
     let alloc = rt.alloc();
-    let none: &[String] = &[];
-    assert!(rt; is_usage(read_words(alloc, none))?);
+    let rows = [
+        ("run a.s", "run 1 1048576 16384 4294967296|a.s"),
+        (
+            "run --workers 16 a.s",
+            "run 16 1048576 16384 4294967296|a.s",
+        ),
+        (
+            "run  --workers=00000000000000000003 b.s --stack 1024 --cells=16 --steps 1",
+            "run 3 1024 16 1||b.s",
+        ),
+        ("plain a.s", "plain 1 1048576 16384 4294967296|a.s"),
+        (
+            "plain --steps=1099511627776 a.s --cells 65536 --stack=1040",
+            "plain 1 1040 65536 1099511627776|a.s",
+        ),
+        (
+            "sim --workers 16 --schedule=0af a.s --turns 9 b.s --steps=7",
+            "sim 16 1048576 16384 7 9 [0, 10, 15]|a.s|b.s",
+        ),
+        (
+            "sim --workers=3 a.s",
+            "sim 3 1048576 16384 4294967296 4294967296 [0, 1, 2]|a.s",
+        ),
+        ("check a.s b.s", "check|a.s|b.s"),
+        ("post =.s", "post|=.s"),
+        ("gen --number 0", "gen 0 4"),
+        (
+            "gen --number 18446744073709551615",
+            "gen 18446744073709551615 4",
+        ),
+        ("gen --workers=2 --number=7", "gen 7 2"),
+    ];
+    for (line, want) in rows {
+        let words = words_of(alloc, line, "", 0)?;
+        let job = read_words(alloc, words.as_slice())?;
+        let text = job_text(alloc, &job)?;
+        assert!(rt; text.as_str() == want, "{line}: {text}");
+    }
+    Ok(())
+}
+
+/// Whether words are taken.
+fn are_taken(alloc: Global, words: &[String]) -> Result<bool, AllocError> {
+    match read_words(alloc, words) {
+        Ok(_) => Ok(true),
+        Err(WordsError::Usage) => Ok(false),
+        Err(WordsError::OutOfMemory) => Err(AllocError),
+    }
+}
+
+#[test]
+fn wrong_words_are_not_taken(rt: HostRuntime) -> Result<(), Fail> {
+    let alloc = rt.alloc();
     let lines = [
         "run --workers 17 empty.s",
         "run --workers 0 empty.s",
@@ -146,89 +160,34 @@ fn wrong_words(rt: HostRuntime) -> Result<(), Fail> {
         "gen --number 1 --workers 17",
     ];
     for line in lines {
-        assert!(rt; is_usage(job_of(alloc, line))?, "{line}");
+        let words = words_of(alloc, line, "", 0)?;
+        assert!(rt; !are_taken(alloc, words.as_slice())?, "{line}");
     }
-    assert!(rt; is_usage(sim_turns(alloc, 4097)?)?);
-    assert!(rt; is_usage(check_files(alloc, 65)?)?);
+    assert!(rt; !are_taken(alloc, &[])?);
     Ok(())
 }
 
 #[test]
-fn run_and_plain(rt: HostRuntime) -> Result<(), Fail> {
+fn counts_have_their_limits(rt: HostRuntime) -> Result<(), Fail> {
     let alloc = rt.alloc();
-    let args = run_of(job_of(alloc, "run --workers 16 a.s")?).ok_or("run")?;
-    assert_eq!(rt; args.workers, 16);
-    assert_eq!(rt; args.limits.stack, 1_048_576);
-    assert_eq!(rt; args.limits.cells, 16_384);
-    assert_eq!(rt; args.limits.steps, 4_294_967_296);
-    let args = run_of(job_of(
-        alloc,
-        "run  --workers=00000000000000000003 b.s --stack 1024 --cells=16 --steps 1",
-    )?)
-    .ok_or("run")?;
-    assert_eq!(rt; args.workers, 3);
-    assert_eq!(rt; args.limits.stack, 1024);
-    assert_eq!(rt; args.limits.cells, 16);
-    assert_eq!(rt; args.limits.steps, 1);
-    assert_eq!(rt; args.names.as_slice().len(), 2);
-    assert_eq!(rt; args.names.as_slice()[0].as_str(), "");
-    assert_eq!(rt; args.names.as_slice()[1].as_str(), "b.s");
-    let args = plain_of(job_of(
-        alloc,
-        "plain --steps=1099511627776 a.s --cells 65536 --stack=1040",
-    )?)
-    .ok_or("plain")?;
-    assert_eq!(rt; args.workers, 1);
-    assert_eq!(rt; args.limits.stack, 1040);
-    assert_eq!(rt; args.limits.cells, 65_536);
-    assert_eq!(rt; args.limits.steps, 1_099_511_627_776);
-    let args = run_of(job_of(alloc, "run a.s")?).ok_or("run")?;
-    assert_eq!(rt; args.workers, 1);
-    Ok(())
-}
-
-#[test]
-fn sim_and_gen(rt: HostRuntime) -> Result<(), Fail> {
-    let alloc = rt.alloc();
-    let sim = sim_of(job_of(
-        alloc,
-        "sim --workers 16 --schedule=0af a.s --turns 9 b.s --steps=7",
-    )?)
-    .ok_or("sim")?;
-    assert_eq!(rt; sim.args.workers, 16);
-    assert_eq!(rt; sim.schedule.as_slice(), [0, 10, 15].as_slice());
-    assert_eq!(rt; sim.turns, 9);
-    assert_eq!(rt; sim.args.limits.steps, 7);
-    assert_eq!(rt; sim.args.names.as_slice().len(), 2);
-    let sim = sim_of(job_of(alloc, "sim --workers=3 a.s")?).ok_or("sim")?;
-    assert_eq!(rt; sim.schedule.as_slice(), [0, 1, 2].as_slice());
-    assert_eq!(rt; sim.turns, 4_294_967_296);
-    let sim = sim_of(sim_turns(alloc, 4096)??).ok_or("sim")?;
-    assert_eq!(rt; sim.schedule.len(), 4096);
-    let args = gen_of(job_of(alloc, "gen --number 18446744073709551615")?).ok_or("gen")?;
-    assert_eq!(rt; args.number, u64::MAX);
-    assert_eq!(rt; args.workers, 4);
-    let args = gen_of(job_of(alloc, "gen --workers=2 --number=7")?).ok_or("gen")?;
-    assert_eq!(rt; args.number, 7);
-    assert_eq!(rt; args.workers, 2);
-    Ok(())
-}
-
-#[test]
-fn check_and_post(rt: HostRuntime) -> Result<(), Fail> {
-    let alloc = rt.alloc();
-    let job = check_files(alloc, 64)??;
-    assert_eq!(rt; job.files().len(), 64);
-    let names = checked_names(job).ok_or("check")?;
-    assert_eq!(rt; names.as_slice().len(), 64);
-    let job = job_of(alloc, "post =.s")?;
-    assert_eq!(rt; job.files().len(), 1);
-    let names = posted_names(job).ok_or("post")?;
-    assert_eq!(rt; names.as_slice().len(), 1);
-    assert_eq!(rt; names.as_slice()[0].as_str(), "=.s");
-    assert!(rt; job_of(alloc, "gen --number 0")?.files().is_empty());
-    assert!(rt; job_of(alloc, "run a.s")?.files().len() == 1);
-    assert!(rt; job_of(alloc, "plain a.s")?.files().len() == 1);
-    assert!(rt; job_of(alloc, "sim a.s")?.files().len() == 1);
+    for count in [64, 65] {
+        let files = words_of(alloc, "check", "a.s", count)?;
+        assert!(rt;
+            are_taken(alloc, files.as_slice())? == (count == 64),
+            "{count}"
+        );
+    }
+    for count in [4096, 4097] {
+        let mut schedule = String::new(alloc);
+        for _ in 0..count {
+            schedule.push('0')?;
+        }
+        let mut words = words_of(alloc, "sim a.s --schedule", "", 0)?;
+        words.push(schedule)?;
+        assert!(rt;
+            are_taken(alloc, words.as_slice())? == (count == 4096),
+            "{count}"
+        );
+    }
     Ok(())
 }

@@ -1,3 +1,4 @@
+pub mod Memory
 pub mod ReadOn
 pub mod ReadTexts
 pub mod UnitLines
@@ -5,6 +6,7 @@ pub mod EndLines
 pub mod OutcomeSets
 pub mod Asking
 pub mod Answering
+pub mod Completing
 pub mod Listings
 pub mod Posting
 pub mod Running

@@ -1,37 +1,37 @@
--- The outcome of the postprocessing of an accepted unit. far-line: the branch that doesn't reach is told at a line of the unit. same-listing:
--- the listing of the code is that of the unit's program. listed, unlinked: the outcome of an accepted unit, where it links and where it
--- doesn't; accepted-post, refused-post: that of a unit; link-names: the files in which the branch is told; posts-few: how much code there is.
-use Rattle.std.proofs.Common.{◌≡◌, ℕ, suc, ◌+◌, ◌*◌, ◌≤◌, List, [], ◌∷◌, ◌++◌, length, map, take, drop, Some, None, slice_get, refl, sym, ap, ◌∙◌, subst, arith, ⊎_elim, inl, inr}
+-- Linking an accepted unit, and the listing of its postprocessed code. link-fault, post-fault: the branch that doesn't reach; far-line: it is
+-- told at a line of the unit; link-names, posted-names: the files in which it is told. listed: the listing of the code is that of the unit's
+-- program (same-listing); posts-few: how much code there is.
+use Rattle.std.proofs.Common.{◌≡◌, ℕ, suc, ◌+◌, ◌*◌, ◌≤◌, List, [], ◌∷◌, ◌++◌, length, map, take, drop, Option, Some, None, slice_get, refl, sym, ap, ◌∙◌, subst, arith, ⊎_elim, inl, inr}
 use Rattle.std.specs.Prelude.{ℤ, Ok}
 use Rattle.std.specs.Coded.{le_prop}
+use Rattle.std.proofs.Math.IntN.{ℤ_set}
+use Rattle.std.proofs.Math.Nat.{ℕ_set}
 use Rattle.std.proofs.Math.Logic.{∥∥₁_elim, ∥∥₁_map, ∥∥₁_prop}
 use Rattle.st_base.specs.declared.line.Line.{Line}
 use Rattle.st_base.specs.declared.image.Image.{Image}
 use Rattle.st_asm.specs.declared.unit.Function.{Function}
-use Rattle.st_asm.specs.declared.whole.Unit.{Unit as Whole}
 use Rattle.st_asm.specs.Assembly.{Parts, unit_of}
-use Rattle.st_asm.specs.Reading.{parts_of}
 use Rattle.st_model.specs.declared.code.Layout.TheVariants.{Postprocessed}
 use Rattle.st_model.specs.declared.program.Item.{Item}
 use Rattle.st_model.specs.declared.program.Program.{Program}
 use Rattle.st_model.specs.declared.program.ProgramFunction.{ProgramFunction}
 use Rattle.st_model.specs.Layout.{function_words, function_size, functions_size, code_start, code_of, far_among, far_in, far_branch, AreWords, IsImageOf}
 use Rattle.st_check.specs.declared.accept.Checked.{Checked}
-use Rattle.st_check.specs.declared.fault.FormFault.{FormFault}
-use Rattle.st_check.specs.Acceptance.{IsAcceptedUnit, IsFirstFault, IsUnitLine}
+use Rattle.st_check.specs.Acceptance.{IsUnitLine}
 use Rattle.st_check.specs.Programs.{program_of}
 use Rattle.st_check.proofs.UnitLines.{program-lines}
 use Rattle.st_post.specs.declared.posted.Posted.{Posted}
 use Rattle.st_post.specs.declared.posted.PostedFunction.{PostedFunction}
-use Rattle.st_link.specs.Refusal.{IsFirstFar}
+use Rattle.st_link.specs.Refusal.{IsFar, IsFirstFar}
+use Rattle.st_asm.specs.Unit.{IsEarlier}
+use Rattle.st_print.specs.declared.fault.Fault.TheVariants as faults
 use Rattle.st_link.proofs.FarLines.{first-case, far_among-told, function-tells}
-use Rattle.st_post.proofs.CodeSize.{code_fits}
+use Rattle.st_model.proofs.CodeSize.{code_fits}
 use Rattle.st_post.proofs.WordCounts.{length-function_words}
-use Rattle.st_main.specs.declared.exit.Exit.TheVariants.{Done}
-use Rattle.st_main.specs.declared.outcome.Outcome.{Outcome}
 use Rattle.st_main.specs.Listing.{listing_from, listing_of, listing_by, words_count, word_lines}
-use Rattle.st_main.specs.Answer.{form_refusal, link_refusal, IsLinkOutcome, IsPostOf}
-use Rattle.st_main.specs.Naming.{NamesAmong}
+use Rattle.st_main.specs.Answer.{text_outcome, IsLinkFault, IsListingOf}
+use Rattle.st_main.specs.Making.{IsNamed}
+use Rattle.st_main.proofs.OutcomeSets.{sums-set}
 use Rattle.st_main.proofs.UnitLines.{unit_line-file}
 
 -- ---- where a branch that doesn't reach is told
@@ -47,13 +47,34 @@ pub far-line : (functions : List Function) (line : Line) (d : ℤ) → far_branc
 unfolding far_branch
 far-line functions line d e = far_in-told (IsUnitLine functions) (program_of functions).functions (line, d) (program-lines functions) e
 
-pub link-names : (checked : Checked) (texts : List (List ℕ)) (parts : Parts) (line : Line) (d : ℤ) (o : Outcome) → IsFirstFar checked.program line d → unit_of texts ≡ Ok parts → parts.functions ≡ checked.unit.now.functions → o ≡ link_refusal line d → NamesAmong (length texts) o
-link-names checked texts parts line d o far reads same is =
+pub link-names : (checked : Checked) (texts : List (List ℕ)) (parts : Parts) (line : Line) (d : ℤ) → IsFirstFar checked.program line d → unit_of texts ≡ Ok parts → parts.functions ≡ checked.unit.now.functions → IsNamed (length texts) (faults.Linking line d)
+link-names checked texts parts line d far reads same =
     let at : checked.program ≡ program_of checked.unit.now.functions → IsUnitLine parts.functions line =
     λ e. subst (λ fs. IsUnitLine fs line) (sym same) (far-line checked.unit.now.functions line d (subst (λ p. far_branch p ≡ Some (line, d)) e far.0)) in
     let first : 1 ≤ line.file = ∥∥₁_elim checked.is_program le_prop (λ e. (unit_line-file texts parts line reads (at e)).0) in
     let last : line.file ≤ length texts = ∥∥₁_elim checked.is_program le_prop (λ e. (unit_line-file texts parts line reads (at e)).1) in
-    subst (NamesAmong (length texts)) (sym is) (λ names enough. (first, omega arith))
+    λ names enough. (first, omega arith)
+
+pub posted-names : (posted : Posted) (checked : Checked) (line : Line) (d : ℤ) → posted.checked.now ≡ checked → IsFirstFar posted.checked.now.program line d → (texts : List (List ℕ)) (parts : Parts) → unit_of texts ≡ Ok parts → parts.functions ≡ checked.unit.now.functions → IsNamed (length texts) (faults.Linking line d)
+posted-names posted checked line d same far texts parts reads functions =
+    link-names posted.checked.now texts parts line d far reads (functions ∙ ap (λ (k : Checked). k.unit.now.functions) (sym same))
+
+-- ---- a branch that doesn't reach
+
+pub far-prop : (p : Program) (far : Option (Line × ℤ)) → IsProp (far_branch p ≡ far)
+far-prop p far = hlevel (sums-set, ℤ_set, ℕ_set)
+
+pub link-fault : (checked : Checked) (line : Line) (d : ℤ) → IsFirstFar checked.program line d → IsLinkFault checked.unit.now.functions (faults.Linking line d)
+link-fault checked line d far =
+    let p : Program = program_of checked.unit.now.functions in
+    let prop : IsProp ⊥ = hlevel in
+    let branch : far_branch p ≡ Some (line, d) = ∥∥₁_elim checked.is_program (far-prop p (Some (line, d))) (λ e. subst (λ q. far_branch q ≡ Some (line, d)) e far.0) in
+    let first : (l : Line) (n : ℤ) → IsFar p l n → IsEarlier l line → ⊥ =
+    λ l n other earlier. ∥∥₁_elim checked.is_program prop (λ e. (subst (λ q. IsFirstFar q line d) e far).1 l n other earlier) in
+    (line, d, (branch, first), refl)
+
+pub post-fault : (posted : Posted) (checked : Checked) (line : Line) (d : ℤ) → posted.checked.now ≡ checked → IsFirstFar posted.checked.now.program line d → IsLinkFault checked.unit.now.functions (faults.Linking line d)
+post-fault posted checked line d same far = subst (λ k. IsLinkFault k.unit.now.functions (faults.Linking line d)) same (link-fault posted.checked.now line d far)
 
 -- ---- the listing
 
@@ -92,30 +113,15 @@ posts-few posted =
 
 -- ---- the outcome
 
-pub listed : (posted : Posted) (checked : Checked) (image : Image) (text : List ℕ) (o : Outcome) → posted.checked.now ≡ checked → IsImageOf Postprocessed posted.checked.now.program posted.checked.now.unit.now.rodata image → text ≡ listing_by code_start posted.code.functions image.words → o ≡ record { exit = Done; printed = text; fault = None } → ∥ IsLinkOutcome checked.unit.now.functions o ∥₁
+pub listed : (posted : Posted) (checked : Checked) (image : Image) (text : List ℕ) → posted.checked.now ≡ checked → IsImageOf Postprocessed posted.checked.now.program posted.checked.now.unit.now.rodata image → text ≡ listing_by code_start posted.code.functions image.words → (far_branch (program_of checked.unit.now.functions) ≡ None) × IsListingOf checked.unit.now.functions (text_outcome text)
 unfolding listing_of
-listed posted checked image text o same image_of lists is =
+listed posted checked image text same image_of lists =
     let functions = posted.checked.now.unit.now.functions in
-    let here : ∥ IsLinkOutcome functions o ∥₁ = ∥∥₁_map posted.checked.now.is_program (λ e.
+    let near : far_branch (program_of functions) ≡ None = ∥∥₁_elim posted.checked.now.is_program (far-prop (program_of functions) None) (λ e. subst (λ p. far_branch p ≡ None) e image_of.reaches) in
+    let here : IsListingOf functions (text_outcome text) = ∥∥₁_map posted.checked.now.is_program (λ e.
     let shown : text ≡ listing_of functions image.words =
     lists
     ∙ same-listing code_start posted.code.functions functions posted.checked.now.program.functions image.words posted.is_code.names posted.is_code.words
     ∙ ap (λ (p : Program). listing_from code_start functions p.functions image.words) e in
-    inr (subst (λ p. far_branch p ≡ None) e image_of.reaches, (image.words, subst (λ p. AreWords (code_of Postprocessed p) image.words) e image_of.words, is ∙ ap (λ (t : List ℕ). record { exit = Done; printed = t; fault = None }) shown))) in
-    subst (λ k. ∥ IsLinkOutcome k.unit.now.functions o ∥₁) same here
-
-pub unlinked : (posted : Posted) (checked : Checked) (line : Line) (d : ℤ) (o : Outcome) → posted.checked.now ≡ checked → IsFirstFar posted.checked.now.program line d → o ≡ link_refusal line d → ∥ IsLinkOutcome checked.unit.now.functions o ∥₁
-unlinked posted checked line d o same far is =
-    let here : ∥ IsLinkOutcome posted.checked.now.unit.now.functions o ∥₁ = ∥∥₁_map posted.checked.now.is_program (λ e. inl (line, d, subst (λ p. IsFirstFar p line d) e far, is)) in
-    subst (λ k. ∥ IsLinkOutcome k.unit.now.functions o ∥₁) same here
-
-pub unlinked-names : (posted : Posted) (checked : Checked) (line : Line) (d : ℤ) (o : Outcome) → posted.checked.now ≡ checked → IsFirstFar posted.checked.now.program line d → o ≡ link_refusal line d → (texts : List (List ℕ)) (parts : Parts) → unit_of texts ≡ Ok parts → parts.functions ≡ checked.unit.now.functions → NamesAmong (length texts) o
-unlinked-names posted checked line d o same far is texts parts reads functions =
-    link-names posted.checked.now texts parts line d o far reads (functions ∙ ap (λ (k : Checked). k.unit.now.functions) (sym same)) is
-
-pub accepted-post : (checked : Checked) (unit : Whole) (o : Outcome) → checked.unit.now ≡ unit → ∥ IsLinkOutcome checked.unit.now.functions o ∥₁ → ∥ IsPostOf (parts_of unit) o ∥₁
-accepted-post checked unit o same links =
-    subst (λ u. ∥ IsPostOf (parts_of u) o ∥₁) same (∥∥₁_elim checked.is_accepted_unit ∥∥₁_prop (λ accepted. ∥∥₁_map links (λ l. inl (accepted, l))))
-
-pub refused-post : (unit : Whole) (fault : FormFault) (o : Outcome) → IsFirstFault unit.functions fault × (IsAcceptedUnit unit.functions → ⊥) → o ≡ form_refusal fault → ∥ IsPostOf (parts_of unit) o ∥₁
-refused-post unit fault o refusal is = ∣ inr (fault, refusal.0, refusal.1, is) ∣₁
+    (image.words, subst (λ p. AreWords (code_of Postprocessed p) image.words) e image_of.words, ap text_outcome shown)) in
+    subst (λ k. (far_branch (program_of k.unit.now.functions) ≡ None) × IsListingOf k.unit.now.functions (text_outcome text)) same (near, here)

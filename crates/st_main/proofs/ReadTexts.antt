@@ -1,5 +1,5 @@
 -- Reading files one after another. SoFar: what holds before each file; file-whole: a file was read whole; file-long: what was read of a file
--- passes the limit; count-push: how many were read; read-all: all files were read. read-same: what was read makes the same unit as the texts.
+-- passes the limit; unread-file: a file was not read; count-push: how many were read; read-all: all files were read. read-same: what was read makes the same unit as the texts.
 use Rattle.std.proofs.Common.{◌≡◌, ℕ, ◌+◌, ◌-◌, ◌<◌, ◌≤◌, cond, List, [], ◌∷◌, ◌++◌, length, map, get_or, Option, Some, None, Err, refl, sym, ap, ◌∙◌, subst, arith, inl, inr, length-append}
 use Rattle.std.specs.Prelude.{slice_get, option_map}
 use Rattle.std.proofs.lemmas.Option.{slice_get-map, slice_get_read}
@@ -7,8 +7,12 @@ use Rattle.std.proofs.lemmas.List.{map-append, length-map}
 use Rattle.std.proofs.lemmas.Bool.{lt-ltb, le-ltb}
 use Rattle.st_asm.specs.Labels.{located}
 use Rattle.st_asm.specs.Assembly.{unit_of, unit_when, too_long}
-use Rattle.st_main.specs.Answer.{IsFile, AreFiles, bytes_in}
-use Rattle.st_main.specs.Reading.{IsStart, HasStart, past_limit, IsReadOf, HasRead}
+use Rattle.st_base.specs.Outside.{HasRisen}
+use Rattle.st_print.specs.declared.fault.Fault.{Fault}
+use Rattle.st_main.specs.Answer.{IsFile, AreFiles, Library, bytes_in}
+use Rattle.st_main.specs.Making.{MemoryOr}
+use Rattle.st_main.specs.Reading.{IsStart, HasStart, IsReadFault, IsUnread, past_limit, IsReadOf, HasRead}
+use Rattle.st_main.proofs.Memory.{memory-weaker}
 
 -- ---- one more text
 
@@ -46,6 +50,11 @@ past-refused texts text n is short long =
     ap (λ o. unit_when o (located 1 (texts ++ text ∷ []))) (too_long-last 1 0 texts text (omega arith) (omega arith)) ∙ ap (λ k. Err (past_limit k)) same
 
 -- ---- from file to file
+
+-- a count that rose within has risen
+pub risen-within : (a b c d : ℕ) → a ≤ b → c ≤ d → HasRisen b c → HasRisen a d
+risen-within a b c d low high (inl h) = inl (omega arith)
+risen-within a b c d low high (inr h) = inr (omega arith)
 
 -- the texts are those of the first files, and leave room for so many bytes
 pub record SoFar (contents : Option (List ℕ → Option (List ℕ))) (names texts : List (List ℕ)) (room : ℕ) : Type 0 where
@@ -104,6 +113,23 @@ module _ {X Y : Type 0} (f : X → List ℕ) (g : Y → List ℕ) (contents afte
       let whole = so_far-whole contents (map f xs) (map g ys) name (g y) room at so start (subst (λ k. k ≤ room) long within) in
       subst (λ k. SoFar contents (map f xs) (map g made) (room - k)) (sym long)
       (subst (λ ts. SoFar contents (map f xs) ts (room - length (g y))) (sym (ap (map g) push ∙ map-append g ys (y ∷ []))) whole)
+
+-- a file that was not read, behind those that were
+pub unread-file : (library : Library) (names texts : List (List ℕ)) (room number before after : ℕ) (fault : Fault) → SoFar library.contents names texts room → length texts + 1 ≡ number → number ≤ length names → library.faults_before ≤ before → after ≤ library.faults_after → MemoryOr (IsUnread number before after) fault → MemoryOr (IsReadFault library names) fault
+unread-file library names texts room number before after fault so next last low high fails =
+    let left = so.left in
+    memory-weaker (IsUnread number before after) (IsReadFault library names) fault (λ f unread. (
+      number,
+      record {
+        named = (omega arith, last);
+        texts = texts;
+        are = so.are;
+        next = next;
+        within = omega arith;
+        rose = risen-within library.faults_before before after library.faults_after low high unread.1;
+      },
+      unread.0,
+    )) fails
 
 pub count-push : {Y : Type 0} (ys made : List Y) (y : Y) (n : ℕ) → made ≡ ys ++ y ∷ [] → length ys ≡ n → length made ≡ n + 1
 count-push ys made y n push count =

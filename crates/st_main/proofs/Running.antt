@@ -1,13 +1,10 @@
--- The run of texts. image-of_unit, link-refused: what linking a unit gives; has-program: the image is a program's; runs-to: the outcome of
--- the image's run is that of the unit; told-among: the files that it is told in. input-runs, runnable-answers: the answer on the input, and
--- on texts; run-answers, run-unread: an answer on what was read is one on the files.
-use Rattle.std.proofs.Common.{◌≡◌, ℕ, ◌≤◌, List, length, Option, Some, None, sym, ◌∙◌, subst, arith, ◌⊎◌, inl, inr}
-use Rattle.std.specs.Prelude.{ℤ, IfOk, IfSome, option_map, Result, Ok}
+-- The run of texts. image-of_unit: what linking a unit gives; has-program: the image is a program's; runs-to: the outcome of the image's run is
+-- that of the unit; told-among: the files that it is told in. input-fails, input-runs: the answer on the input; run-unread, run-refused,
+-- run-answers: that on files.
+use Rattle.std.proofs.Common.{◌≡◌, ℕ, ◌≤◌, List, length, Option, Some, None, refl, sym, ap, subst, arith, ◌⊎◌, inl, inr}
+use Rattle.std.specs.Prelude.{IfSome, option_map, Result, Ok}
 use Rattle.std.specs.Coded.{le_prop}
-use Rattle.std.proofs.Math.IntN.{ℤ_set}
-use Rattle.std.proofs.Math.Nat.{ℕ_set}
 use Rattle.std.proofs.Math.Logic.{∥∥₁_elim, ∥∥₁_map, ∥∥₁_prop}
-use Rattle.std.specs.declared.alloc.AllocError.{AllocError}
 use Rattle.st_base.specs.declared.image.Image.{Image}
 use Rattle.st_base.specs.declared.limits.Limits.{Limits}
 use Rattle.st_base.specs.declared.line.Line.{Line}
@@ -28,24 +25,20 @@ use Rattle.st_check.specs.declared.accept.Checked.{Checked}
 use Rattle.st_check.specs.Programs.{program_of as program_of'}
 use Rattle.st_check.proofs.UnitLines.{program-lines}
 use Rattle.st_plain.specs.Answer.{HasProgram, IsPlainImage, bounds_of}
-use Rattle.st_main.specs.declared.exit.Exit.{Exit}
 use Rattle.st_main.specs.declared.outcome.Outcome.{Outcome}
-use Rattle.st_main.specs.Naming.{NamesAmong}
-use Rattle.st_main.specs.Reading.{HasRead}
-use Rattle.st_main.specs.Answer.{Seen, Intake, link_refusal, RefusesUnit, RefusesBy, IsRunnable, outcome_of_end, outcome_of_bounded, RunsTo, FailsToRead, IsInput, AnswersInput, AnswersTexts, AnswersRun, RunsOut}
+use Rattle.st_main.specs.Answer.{Intake, Library, fault_outcome, outcome_of_end, outcome_of_bounded, RefusesTexts, IsRunnable, RunsTo, IsUntouched, IsInput, AnswersInput, AnswersRun}
+use Rattle.st_main.specs.Input.{IsInputFault}
+use Rattle.st_main.specs.Making.{MemoryOr, MayBe}
+use Rattle.st_main.specs.Reading.{HasRead, IsReadFault}
 use Rattle.st_main.specs.Running.{IsImageOfUnit, IsImageOfTexts, IsImageOfFiles, EndsSo}
-use Rattle.st_asm.specs.Unit.{IsEarlier}
-use Rattle.st_link.specs.Refusal.{IsFar, IsFirstFar}
-use Rattle.st_main.proofs.Answering.{AnswersOutcome}
-use Rattle.st_main.proofs.OutcomeSets.{outcome-set, sums-set}
+use Rattle.st_main.proofs.Memory.{memory-or}
+use Rattle.st_main.proofs.OutcomeSets.{outcome-set}
+use Rattle.st_main.proofs.Posting.{far-prop}
 use Rattle.st_main.proofs.ReadTexts.{read-same}
 use Rattle.st_main.proofs.UnitLines.{unit_line-file}
 use Rattle.st_main.proofs.EndLines.{BoundedTold, EndTold, ItemLines, bounded-told}
 
 -- ---- what a unit gives
-
-far-prop : (p : Program) (far : Option (Line × ℤ)) → IsProp (far_branch p ≡ far)
-far-prop p far = hlevel (sums-set, ℤ_set, ℕ_set)
 
 plain-image : (p : Program) (bytes : List ℕ) (image : Image) → IsAccepted p → HasSize p → IsImageOf Unchanged p bytes image → IsPlainImage p image
 plain-image p bytes image accepted size is = record { accepted = accepted; size = size; is_image = subst (λ b. IsImageOf Unchanged p b image) (sym is.bytes) is }
@@ -63,15 +56,6 @@ image-of_unit checked image is =
           ∥∥₁_map checked.has_size (λ size. subst (λ p. IsPlainImage p image) e (plain-image checked.program checked.unit.now.rodata image accepted size is))));
     }
 
-pub link-refused : (checked : Checked) (line : Line) (d : ℤ) (o : Outcome) → IsFirstFar checked.program line d → o ≡ link_refusal line d → RefusesUnit (parts_of checked.unit.now) o
-link-refused checked line d o far is =
-    let p : Program = program_of' checked.unit.now.functions in
-    let prop : IsProp ⊥ = hlevel in
-    let branch : far_branch p ≡ Some (line, d) = ∥∥₁_elim checked.is_program (far-prop p (Some (line, d))) (λ e. subst (λ q. far_branch q ≡ Some (line, d)) e far.0) in
-    let first : (l : Line) (n : ℤ) → IsFar p l n → IsEarlier l line → ⊥ =
-    λ l n other earlier. ∥∥₁_elim checked.is_program prop (λ e. (subst (λ q. IsFirstFar q line d) e far).1 l n other earlier) in
-    inr (checked.is_accepted_unit, (line, d, (branch, first), is))
-
 -- ---- the outcome of a run
 
 pub has-program : (files : ℕ) (image : Image) → IsImageOfFiles files image → ∥ HasProgram image ∥₁
@@ -88,22 +72,26 @@ runs-to parts image input limits o is so =
 abbrev IsAmong : ℕ → Line → Type 0
 IsAmong files line = (1 ≤ line.file) × (line.file ≤ files)
 
-end-among : (files : ℕ) (end : OrdEnd) → EndTold (IsAmong files) end → NamesAmong files (outcome_of_end end)
+-- the fault of an outcome is told in one of the first so many files
+abbrev IsToldAmong : ℕ → Outcome → Type 0
+IsToldAmong files o = (names : List (List ℕ)) → files ≤ length names → IfSome o.fault (NamesFiles names)
+
+end-among : (files : ℕ) (end : OrdEnd) → EndTold (IsAmong files) end → IsToldAmong files (outcome_of_end end)
 end-among files ends.Going told = λ names enough. tt
 end-among files (ends.Done out) told = λ names enough. tt
 end-among files (ends.Trap kind line path out) told = λ names enough. (told.0, (let last = told.1 in omega arith))
 end-among files (ends.Waits line path out) told = λ names enough. (told.0, (let last = told.1 in omega arith))
 end-among files (ends.OutLimit out) told = λ names enough. tt
 
-bounded-among : (files : ℕ) (b : Bounds) (end : BoundedEnd) → BoundedTold (IsAmong files) (Some end) → NamesAmong files (outcome_of_bounded b end)
+bounded-among : (files : ℕ) (b : Bounds) (end : BoundedEnd) → BoundedTold (IsAmong files) (Some end) → IsToldAmong files (outcome_of_bounded b end)
 bounded-among files b (ended end) told = end-among files end told
 bounded-among files b past_steps told = λ names enough. tt
 bounded-among files b past_cells told = λ names enough. tt
 bounded-among files b (past_stack frame) told = λ names enough. tt
 
-run-among : (files : ℕ) (b : Bounds) (r : Option BoundedEnd) (o : Outcome) → BoundedTold (IsAmong files) r → option_map (outcome_of_bounded b) r ≡ Some o → NamesAmong files o
+run-among : (files : ℕ) (b : Bounds) (r : Option BoundedEnd) (o : Outcome) → BoundedTold (IsAmong files) r → option_map (outcome_of_bounded b) r ≡ Some o → IsToldAmong files o
 run-among files b None o told is = let no : ⊥ = cc in absurd no
-run-among files b (Some end) o told is = let same : outcome_of_bounded b end ≡ o = cc in subst (NamesAmong files) same (bounded-among files b end told)
+run-among files b (Some end) o told is = let same : outcome_of_bounded b end ≡ o = cc in subst (IsToldAmong files) same (bounded-among files b end told)
 
 names-prop : (names : List (List ℕ)) (fault : Fault) → IsProp (NamesFiles names fault)
 names-prop names faults.Usage = hlevel
@@ -134,29 +122,46 @@ told-among names image input limits o (texts, few, (parts, reads, is)) so =
 
 -- ---- the answer on the input
 
-pub input-runs : (parts : Parts) (image : Image) (names : List (List ℕ)) (bytes : List ℕ) (limits : Limits) (r : Result Outcome AllocError) (intake : Intake) (seen : Seen) (exit : Exit) → IsImageOfUnit parts image → IfOk r (EndsSo image bytes limits) → IsInput intake bytes → length bytes ≤ 16777216 → AnswersOutcome names r seen exit → RunsOut seen exit ⊎ AnswersInput (bounds_of limits) parts names intake seen exit
-input-runs parts image names bytes limits r intake seen exit is so whole few (inl out) = inl out
-input-runs parts image names bytes limits r intake seen exit is so whole few (inr (o, made, about)) =
-    inr (inr (inr (bytes, whole, few, (o, runs-to parts image bytes limits o is (subst (λ x. IfOk x (EndsSo image bytes limits)) made so), about))))
+input-failed : (ends : Parts → List ℕ → Outcome → Type 0) (parts : Parts) (intake : Intake) (fault : Fault) → (fault ≡ faults.OutOfMemory) ⊎ IsInputFault intake fault → MayBe (AnswersInput ends parts intake) (fault_outcome fault)
+input-failed ends parts intake fault (inl e) = inl (ap fault_outcome e)
+input-failed ends parts intake fault (inr (inl (e, rose))) = inr (inl (rose, ap fault_outcome e))
+input-failed ends parts intake fault (inr (inr (e, long))) = inr (inr (inl (long, ap fault_outcome e)))
 
-runnable-answered : (b : Bounds) (texts names : List (List ℕ)) (intake : Intake) (seen : Seen) (exit : Exit) (parts : Parts) → IsRunnable texts parts → RunsOut seen exit ⊎ AnswersInput b parts names intake seen exit → RunsOut seen exit ⊎ AnswersTexts b texts names intake seen exit
-runnable-answered b texts names intake seen exit parts runnable (inl out) = inl out
-runnable-answered b texts names intake seen exit parts runnable (inr answers) = inr (inr (parts, runnable, answers))
+pub input-fails : (ends : Parts → List ℕ → Outcome → Type 0) (parts : Parts) (intake : Intake) (fault : Fault) → MemoryOr (IsInputFault intake) fault → MayBe (AnswersInput ends parts intake) (fault_outcome fault)
+input-fails ends parts intake fault fails = input-failed ends parts intake fault (memory-or (IsInputFault intake) fault fails)
 
-pub runnable-answers : (b : Bounds) (texts : List (List ℕ)) (image : Image) (names : List (List ℕ)) (intake : Intake) (seen : Seen) (exit : Exit) → IsImageOfTexts texts image → ((parts : Parts) → IsImageOfUnit parts image → RunsOut seen exit ⊎ AnswersInput b parts names intake seen exit) → RunsOut seen exit ⊎ AnswersTexts b texts names intake seen exit
-runnable-answers b texts image names intake seen exit (parts, reads, is) answers = runnable-answered b texts names intake seen exit parts (reads, is.accepted, is.reaches) (answers parts is)
+input-named : (names : List (List ℕ)) (intake : Intake) (fault : Fault) → (fault ≡ faults.OutOfMemory) ⊎ IsInputFault intake fault → NamesFiles names fault
+input-named names intake fault (inl e) = subst (NamesFiles names) (sym e) tt
+input-named names intake fault (inr (inl (e, rose))) = subst (NamesFiles names) (sym e) tt
+input-named names intake fault (inr (inr (e, long))) = subst (NamesFiles names) (sym e) tt
+
+pub input-names : (names : List (List ℕ)) (intake : Intake) (fault : Fault) → MemoryOr (IsInputFault intake) fault → NamesFiles names fault
+input-names names intake fault fails = input-named names intake fault (memory-or (IsInputFault intake) fault fails)
+
+pub input-runs : (parts : Parts) (image : Image) (bytes : List ℕ) (limits : Limits) (o : Outcome) (intake : Intake) → IsImageOfUnit parts image → EndsSo image bytes limits o → IsInput intake bytes → length bytes ≤ 16777216 → MayBe (AnswersInput (RunsTo (bounds_of limits)) parts intake) o
+input-runs parts image bytes limits o intake is so whole few = inr (inr (inr (bytes, whole, few, runs-to parts image bytes limits o is so)))
 
 -- ---- the answer on files
 
-text-runs : (b : Bounds) (texts read names : List (List ℕ)) (intake : Intake) (seen : Seen) (exit : Exit) → unit_of read ≡ unit_of texts → AnswersTexts b read names intake seen exit → AnswersTexts b texts names intake seen exit
-text-runs b texts read names intake seen exit same (inl (kept, (o, refused, about))) = inl (kept, (o, subst (λ r. RefusesBy r o) same refused, about))
-text-runs b texts read names intake seen exit same (inr (parts, (reads, accepted, near), answers)) = inr (parts, (sym same ∙ reads, accepted, near), answers)
+module _ (ends : Parts → List ℕ → Outcome → Type 0) (library : Library) (names : List (List ℕ)) (intake : Intake) where
+  unread : (fault : Fault) → IsUntouched intake → (fault ≡ faults.OutOfMemory) ⊎ IsReadFault library names fault → AnswersRun ends library names intake (fault_outcome fault)
+  unread fault kept (inl e) = inl (ap fault_outcome e)
+  unread fault kept (inr (file, is, e)) = inr (inl (kept, (file, is, ap fault_outcome e)))
 
-pub run-answers : (b : Bounds) (contents : Option (List ℕ → Option (List ℕ))) (names read : List (List ℕ)) (intake : Intake) (seen : Seen) (exit : Exit) → HasRead contents names read → RunsOut seen exit ⊎ AnswersTexts b read names intake seen exit → AnswersRun b contents names intake seen exit
-run-answers b contents names read intake seen exit h (inl out) = inl out
-run-answers b contents names read intake seen exit h (inr answers) =
-    inr (inr (h.texts, h.are, text-runs b h.texts read names intake seen exit (read-same h.texts read h.same) answers))
+  pub run-unread : (fault : Fault) → IsUntouched intake → MemoryOr (IsReadFault library names) fault → AnswersRun ends library names intake (fault_outcome fault)
+  run-unread fault kept fails = unread fault kept (memory-or (IsReadFault library names) fault fails)
 
-pub run-unread : (b : Bounds) (contents : Option (List ℕ → Option (List ℕ))) (names : List (List ℕ)) (intake : Intake) (seen : Seen) (exit : Exit) → RunsOut seen exit ⊎ FailsToRead names seen exit → AnswersRun b contents names intake seen exit
-run-unread b contents names intake seen exit (inl out) = inl out
-run-unread b contents names intake seen exit (inr fails) = inr (inl fails)
+  refused : (read : List (List ℕ)) (fault : Fault) → IsUntouched intake → HasRead library.contents names read → (fault ≡ faults.OutOfMemory) ⊎ RefusesTexts (unit_of read) fault → AnswersRun ends library names intake (fault_outcome fault)
+  refused read fault kept h (inl e) = inl (ap fault_outcome e)
+  refused read fault kept h (inr is) = inr (inr (h.texts, h.are, inl (kept, (fault, subst (λ r. RefusesTexts r fault) (read-same h.texts read h.same) is, refl))))
+
+  pub run-refused : (read : List (List ℕ)) (fault : Fault) → IsUntouched intake → HasRead library.contents names read → MemoryOr (RefusesTexts (unit_of read)) fault → AnswersRun ends library names intake (fault_outcome fault)
+  run-refused read fault kept h fails = refused read fault kept h (memory-or (RefusesTexts (unit_of read)) fault fails)
+
+  run-on : (read : List (List ℕ)) (o : Outcome) (parts : Parts) → HasRead library.contents names read → IsRunnable (unit_of read) parts → MayBe (AnswersInput ends parts intake) o → AnswersRun ends library names intake o
+  run-on read o parts h runnable (inl want) = inl want
+  run-on read o parts h runnable (inr answers) =
+      inr (inr (h.texts, h.are, inr (parts, subst (λ r. IsRunnable r parts) (read-same h.texts read h.same) runnable, answers)))
+
+  pub run-answers : (read : List (List ℕ)) (image : Image) (o : Outcome) → HasRead library.contents names read → IsImageOfTexts read image → ((parts : Parts) → IsImageOfUnit parts image → MayBe (AnswersInput ends parts intake) o) → AnswersRun ends library names intake o
+  run-answers read image o h (parts, reads, is) answers = run-on read o parts h ((reads, is.accepted), is.reaches) (answers parts is)

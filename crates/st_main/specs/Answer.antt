@@ -1,9 +1,8 @@
--- What the program answers: the job that its words ask for, and the outcome of it: how the program exits, what it prints and what fault it
--- tells. Read AsksFor, then IsAnswer, and for each command what its texts come to: RefusesTexts, IsRunnable and RunsTo of `run` and `plain`,
--- which take the bounded ordinary-call run of the files' program on the input; IsCheckOutcome of `check`, the canonical text of an
--- accepted unit; IsPostOutcome of `post`, the listing of its postprocessed code.
+-- What the program answers: the job that its words ask for, and the outcome of it: the bytes that it prints and the fault that it tells, by
+-- which it exits. Read IsAnswer, then Answers and ComesAbout, which say how an outcome comes about, and for each command the outcomes that
+-- it may have: AnswersFiles with IsCheckOutcome of `check`, the canonical text of an accepted unit; with IsPostOutcome of `post`, the listing
+-- of its postprocessed code; AnswersRun of a run, with RunsTo of `run` and `plain`, the bounded ordinary-call run on the input.
 use Rattle.std.specs.Prelude.{◌≡◌, ◌⊎◌, ℤ, ℕ, ◌+◌, ◌<◌, ◌≤◌, List, [], ◌∷◌, length, take, Option, Some, None, option_map, IfSome, codes, Result, Ok, Err}
-use Rattle.st_base.specs.declared.limits.LimitKind.{LimitKind}
 use Rattle.st_base.specs.declared.limits.LimitKind.TheVariants.{Stack, Cell, Step, Out, Input}
 use Rattle.st_base.specs.declared.line.Line.{Line}
 use Rattle.st_base.specs.Outside.{HasRisen, Appends}
@@ -26,8 +25,9 @@ use Rattle.st_link.specs.Refusal.{IsFirstFar}
 use Rattle.st_model.specs.Memory.{data_of}
 use Rattle.st_jobs.specs.Commands.{Asked, Setting, setting, workers_id, job_of}
 use Rattle.st_main.specs.declared.exit.Exit.{Exit}
-use Rattle.st_main.specs.declared.exit.Exit.TheVariants.{Done, Usage, Refused, Trap, Limit, ReadFault, WriteFault, OutOfMemory, Waits}
+use Rattle.st_main.specs.declared.exit.Exit.TheVariants.{WriteFault}
 use Rattle.st_main.specs.declared.outcome.Outcome.{Outcome}
+use Rattle.st_main.specs.Exit.{exit_of}
 use Rattle.st_main.specs.Listing.{listing_of}
 
 -- ---- the words
@@ -56,110 +56,94 @@ AsksFor words job = job_of words ≡ Some (asked_by job)
 abbrev pub AsksForNone : List (List ℕ) → Type 0
 AsksForNone words = (job : Built) → AsksFor words job → ⊥
 
--- ---- refusals
+-- ---- outcomes
 
-abbrev pub refusal : AsmFault → Outcome
-refusal fault = record { exit = Refused; printed = []; fault = Some (faults.Reading fault) }
+-- a fault at which nothing is printed
+abbrev pub fault_outcome : Fault → Outcome
+fault_outcome fault = record { printed = []; fault = Some fault }
 
-abbrev pub form_refusal : FormFault → Outcome
-form_refusal fault = record { exit = Refused; printed = []; fault = Some (faults.Checking fault.line fault.kind) }
+-- a text is printed, and no fault told
+abbrev pub text_outcome : List ℕ → Outcome
+text_outcome text = record { printed = text; fault = None }
 
-abbrev pub link_refusal : Line → ℤ → Outcome
-link_refusal line distance = record { exit = Refused; printed = []; fault = Some (faults.Linking line distance) }
+-- memory was wanting
+abbrev pub IsWant : Outcome → Type 0
+IsWant o = o ≡ fault_outcome faults.OutOfMemory
+
+-- ---- the unit of the texts: what they read as is the parts of a unit or a fault
 
 -- a unit that isn't accepted is refused at its first fault
-abbrev pub IsFormRefusal : List Function → Outcome → Type 0
-IsFormRefusal functions o = (fault : FormFault) × IsFirstFault functions fault × (IsAcceptedUnit functions → ⊥) × (o ≡ form_refusal fault)
+abbrev pub IsFormFault : List Function → Fault → Type 0
+IsFormFault functions fault = (f : FormFault) × IsFirstFault functions f × (IsAcceptedUnit functions → ⊥) × (fault ≡ faults.Checking f.line f.kind)
 
 -- an accepted unit with a branch that doesn't reach is refused at the first one by file and line
-abbrev pub IsLinkRefusal : List Function → Outcome → Type 0
-IsLinkRefusal functions o = (line : Line) × (distance : ℤ) × IsFirstFar (program_of' functions) line distance × (o ≡ link_refusal line distance)
+abbrev pub IsLinkFault : List Function → Fault → Type 0
+IsLinkFault functions fault = (line : Line) × (distance : ℤ) × IsFirstFar (program_of' functions) line distance × (fault ≡ faults.Linking line distance)
+
+-- texts that make no accepted unit are refused by reading, or else by checking
+abbrev pub IsUnaccepted : Result Parts AsmFault → Fault → Type 0
+IsUnaccepted (Err f) fault = fault ≡ faults.Reading f
+IsUnaccepted (Ok parts) fault = IsFormFault parts.functions fault
+
+-- the texts make this unit, which is accepted
+abbrev pub IsAcceptedUnitOf : Result Parts AsmFault → Parts → Type 0
+IsAcceptedUnitOf read parts = (read ≡ Ok parts) × ∥ IsAcceptedUnit parts.functions ∥₁
+
+-- the texts are refused by reading, by checking or by linking
+abbrev pub RefusesTexts : Result Parts AsmFault → Fault → Type 0
+RefusesTexts read fault = IsUnaccepted read fault ⊎ ((parts : Parts) × IsAcceptedUnitOf read parts × IsLinkFault parts.functions fault)
+
+-- the texts make this unit, which is accepted and links
+abbrev pub IsRunnable : Result Parts AsmFault → Parts → Type 0
+IsRunnable read parts = IsAcceptedUnitOf read parts × (far_branch (program_of' parts.functions) ≡ None)
+
+-- ---- the outcomes of a check and of a postprocessing
+
+-- the canonical text is printed
+abbrev pub IsCanonical : Parts → Outcome → Type 0
+IsCanonical parts o = o ≡ text_outcome (unit_text parts.functions parts.rodata)
+
+-- the texts are refused, or make a unit that comes to the outcome
+abbrev pub IsOutcome : (Result Parts AsmFault → Fault → Type 0) → (Result Parts AsmFault → Parts → Type 0) → (Parts → Outcome → Type 0) → Result Parts AsmFault → Outcome → Type 0
+IsOutcome refuses ready makes read o =
+    ((fault : Fault) × refuses read fault × (o ≡ fault_outcome fault)) ⊎ ((parts : Parts) × ready read parts × makes parts o)
+
+-- an accepted unit is printed
+abbrev pub IsCheckOutcome : Result Parts AsmFault → Outcome → Type 0
+IsCheckOutcome read o = IsOutcome IsUnaccepted IsAcceptedUnitOf IsCanonical read o
+
+-- the words of the postprocessed code are listed
+abbrev pub IsListingOf : List Function → Outcome → Type 0
+IsListingOf functions o = ∥ ((ws : List ℕ) × AreWords (code_of Postprocessed (program_of' functions)) ws × (o ≡ text_outcome (listing_of functions ws))) ∥₁
+
+abbrev pub IsListing : Parts → Outcome → Type 0
+IsListing parts o = IsListingOf parts.functions o
+
+-- an accepted unit that links is listed
+abbrev pub IsPostOutcome : Result Parts AsmFault → Outcome → Type 0
+IsPostOutcome read o = IsOutcome RefusesTexts IsRunnable IsListing read o
 
 -- ---- the outcome of a run
 
--- a limit prints nothing, but that of the output
-abbrev pub limit_outcome : LimitKind → Outcome
-limit_outcome kind = record { exit = Limit kind; printed = []; fault = Some (faults.Limit kind) }
-
--- of an end of the ordinary-call run; a run that goes on has met the limit of steps
+-- of an end of the ordinary-call run; a run that goes on has met the limit of steps, and a limit prints nothing but that of the output
 abbrev pub outcome_of_end : OrdEnd → Outcome
-outcome_of_end ends.Going = limit_outcome (Step 0)
-outcome_of_end (ends.Done out) = record { exit = Done; printed = out; fault = None }
-outcome_of_end (ends.Trap kind line path out) = record { exit = Trap; printed = out; fault = Some (faults.Trap line kind path) }
-outcome_of_end (ends.Waits line path out) = record { exit = Waits; printed = out; fault = Some (faults.Waits line path) }
-outcome_of_end (ends.OutLimit out) = record { exit = Limit Out; printed = out; fault = Some (faults.Limit Out) }
+outcome_of_end ends.Going = fault_outcome (faults.Limit (Step 0))
+outcome_of_end (ends.Done out) = text_outcome out
+outcome_of_end (ends.Trap kind line path out) = record { printed = out; fault = Some (faults.Trap line kind path) }
+outcome_of_end (ends.Waits line path out) = record { printed = out; fault = Some (faults.Waits line path) }
+outcome_of_end (ends.OutLimit out) = record { printed = out; fault = Some (faults.Limit Out) }
 
 -- of an end of the run within these limits
 abbrev pub outcome_of_bounded : Bounds → BoundedEnd → Outcome
 outcome_of_bounded b (ended end) = outcome_of_end end
-outcome_of_bounded b past_steps = limit_outcome (Step 0)
-outcome_of_bounded b past_cells = limit_outcome (Cell b.cells)
-outcome_of_bounded b (past_stack frame) = limit_outcome (Stack 0 frame)
-
--- a unit is refused by checking or by linking
-abbrev pub RefusesUnit : Parts → Outcome → Type 0
-RefusesUnit parts o = IsFormRefusal parts.functions o ⊎ (∥ IsAcceptedUnit parts.functions ∥₁ × IsLinkRefusal parts.functions o)
-
-abbrev pub RefusesBy : Result Parts AsmFault → Outcome → Type 0
-RefusesBy (Err fault) o = o ≡ refusal fault
-RefusesBy (Ok parts) o = RefusesUnit parts o
-
--- the texts are refused, before any input is read: by reading, by checking or by linking
-abbrev pub RefusesTexts : List (List ℕ) → Outcome → Type 0
-RefusesTexts texts o = RefusesBy (unit_of texts) o
-
--- the texts make a unit, which is accepted and links
-abbrev pub IsRunnable : List (List ℕ) → Parts → Type 0
-IsRunnable texts parts =
-    (unit_of texts ≡ Ok parts) × ∥ IsAcceptedUnit parts.functions ∥₁ × (far_branch (program_of' parts.functions) ≡ None)
+outcome_of_bounded b past_steps = fault_outcome (faults.Limit (Step 0))
+outcome_of_bounded b past_cells = fault_outcome (faults.Limit (Cell b.cells))
+outcome_of_bounded b (past_stack frame) = fault_outcome (faults.Limit (Stack 0 frame))
 
 -- what the run of a unit's program comes to on an input, within limits
 abbrev pub RunsTo : Bounds → Parts → List ℕ → Outcome → Type 0
 RunsTo b parts input o =
     option_map (outcome_of_bounded b) (bounded_run (program_of' parts.functions) (data_of parts.rodata input) b) ≡ Some o
-
--- ---- the outcome of a check
-
--- the canonical text is printed
-abbrev pub canonical : Parts → Outcome
-canonical parts = record { exit = Done; printed = unit_text parts.functions parts.rodata; fault = None }
-
--- an accepted unit is printed; another is refused at its first fault
-abbrev pub IsUnitOutcome : Parts → Outcome → Type 0
-IsUnitOutcome parts o =
-    (∥ IsAcceptedUnit parts.functions ∥₁ × (o ≡ canonical parts)) ⊎ IsFormRefusal parts.functions o
-
--- texts that don't read are refused at their first fault
-abbrev pub IsCheckBy : Result Parts AsmFault → Outcome → Type 0
-IsCheckBy (Err fault) o = o ≡ refusal fault
-IsCheckBy (Ok parts) o = IsUnitOutcome parts o
-
--- the check of texts comes to this outcome
-abbrev pub IsCheckOutcome : List (List ℕ) → Outcome → Type 0
-IsCheckOutcome texts o = IsCheckBy (unit_of texts) o
-
--- ---- the outcome of a postprocessing
-
-abbrev pub listing : List Function → List ℕ → Outcome
-listing functions ws = record { exit = Done; printed = listing_of functions ws; fault = None }
-
--- an accepted unit: its first branch that doesn't reach refuses it, or its code is listed
-abbrev pub IsLinkOutcome : List Function → Outcome → Type 0
-IsLinkOutcome functions o =
-    IsLinkRefusal functions o ⊎ ((far_branch (program_of' functions) ≡ None) × ((ws : List ℕ) × AreWords (code_of Postprocessed (program_of' functions)) ws × (o ≡ listing functions ws)))
-
--- a unit that isn't accepted is refused at its first fault
-abbrev pub IsPostOf : Parts → Outcome → Type 0
-IsPostOf parts o =
-    (IsAcceptedUnit parts.functions × IsLinkOutcome parts.functions o) ⊎ IsFormRefusal parts.functions o
-
-abbrev pub IsPostBy : Result Parts AsmFault → Outcome → Type 0
-IsPostBy (Err fault) o = o ≡ refusal fault
-IsPostBy (Ok parts) o = ∥ IsPostOf parts o ∥₁
-
--- the postprocessing of texts comes to this outcome
-abbrev pub IsPostOutcome : List (List ℕ) → Outcome → Type 0
-IsPostOutcome texts o = IsPostBy (unit_of texts) o
 
 -- ---- the texts of files
 
@@ -183,42 +167,19 @@ pub record AreTexts (contents : Option (List ℕ → Option (List ℕ))) (names 
   pub files : AreFiles contents names texts
   pub enough : (length texts ≡ length names) ⊎ (1048576 < bytes_in texts)
 
--- ---- what is seen of a call
+-- ---- what was seen of the outside in a call
 
--- what is told of a fault, if there is one, where the files have these names
-abbrev pub told_text : List (List ℕ) → Option Fault → List ℕ
-told_text names None = []
-told_text names (Some fault) = fault_text names fault
+-- of files: what they hold, where they tell it, and their counts of faults
+pub record Library : Type 0 where
+  pub contents : Option (List ℕ → Option (List ℕ))
+  pub faults_before : ℕ
+  pub faults_after : ℕ
 
--- what was seen of a call: the sink took these bytes, the second sink took such a text, the count of the files rose, that of the sink rose
-pub record Seen : Type 1 where
-  pub Printed : List ℕ → Type 0
-  pub Told : List ℕ → Type 0
-  pub ReadRose : Type 0
-  pub WriteRose : Type 0
+abbrev pub library_of : Option (List ℕ → Option (List ℕ)) → ℕ → ℕ → Library
+library_of contents faults_before faults_after =
+    record { contents = contents; faults_before = faults_before; faults_after = faults_after }
 
--- the outcome comes about; or its bytes weren't all taken, since the sink failed, and a prefix of them is printed
-abbrev pub ComesAbout : List (List ℕ) → Outcome → Seen → Exit → Type 0
-ComesAbout names o seen exit =
-    ((exit ≡ o.exit) × seen.Printed o.printed × seen.Told (told_text names o.fault)) ⊎ ((exit ≡ WriteFault) × seen.WriteRose × ((n : ℕ) × seen.Printed (take n o.printed)) × seen.Told (fault_text [] faults.Write))
-
--- memory was wanting: nothing is printed
-abbrev pub RunsOut : Seen → Exit → Type 0
-RunsOut seen exit = (exit ≡ OutOfMemory) × seen.Printed [] × seen.Told (fault_text [] faults.OutOfMemory)
-
--- a file could not be read, since the count of faults rose: nothing is printed
-abbrev pub FailsToRead : List (List ℕ) → Seen → Exit → Type 0
-FailsToRead names seen exit =
-    (exit ≡ ReadFault) × seen.ReadRose × seen.Printed [] × ((file : ℕ) × HasName names file × seen.Told (fault_text names (faults.ReadFile file)))
-
--- the answer on files, where texts come to such outcomes
-abbrev pub AnswersFiles : (List (List ℕ) → Outcome → Type 0) → Option (List ℕ → Option (List ℕ)) → List (List ℕ) → Seen → Exit → Type 0
-AnswersFiles outcomes contents names seen exit =
-    RunsOut seen exit ⊎ (FailsToRead names seen exit ⊎ ((texts : List (List ℕ)) × AreTexts contents names texts × ((o : Outcome) × outcomes texts o × ComesAbout names o seen exit)))
-
--- ---- the input
-
--- what was seen of the input: what it had left before a call and after it, where it tells this, and its counts of faults
+-- of the input: what it had left before and after, where it tells this, and its counts of faults
 pub record Intake : Type 0 where
   pub before : Option (List ℕ)
   pub after : Option (List ℕ)
@@ -233,6 +194,77 @@ intake_of before after faults_before faults_after = record {
   faults_after = faults_after;
 }
 
+-- of an output: its counts of faults, and what it had taken before and after, where it tells this
+pub record Output : Type 0 where
+  pub faults_before : ℕ
+  pub faults_after : ℕ
+  pub before : Option (List ℕ)
+  pub after : Option (List ℕ)
+
+abbrev pub output_of : ℕ → ℕ → Option (List ℕ) → Option (List ℕ) → Output
+output_of faults_before faults_after before after = record {
+  faults_before = faults_before;
+  faults_after = faults_after;
+  before = before;
+  after = after;
+}
+
+-- ---- how an outcome comes about
+
+-- the output has taken these bytes
+abbrev pub Prints : Output → List ℕ → Type 0
+Prints out bytes = Appends out.before out.after bytes
+
+-- the output has taken a text, or a prefix of it where its count of faults rose
+abbrev pub Tells : Output → List ℕ → Type 0
+Tells err text = Prints err text ⊎ (HasRisen err.faults_before err.faults_after × ((n : ℕ) × Prints err (take n text)))
+
+-- what is told of a fault, if there is one, where the files have these names
+abbrev pub told_text : List (List ℕ) → Option Fault → List ℕ
+told_text names None = []
+told_text names (Some fault) = fault_text names fault
+
+-- the bytes are printed, the fault is told, and the exit is that of the fault
+abbrev pub Happens : List (List ℕ) → Outcome → Output → Output → Exit → Type 0
+Happens names o out err exit = (exit ≡ exit_of o.fault) × Prints out o.printed × Tells err (told_text names o.fault)
+
+-- there were bytes that weren't all taken, since the count of faults rose: a prefix of them is printed
+abbrev pub Breaks : List (List ℕ) → Outcome → Output → Output → Exit → Type 0
+Breaks names o out err exit =
+    (exit ≡ WriteFault) × (o.printed ≡ [] → ⊥) × HasRisen out.faults_before out.faults_after × ((n : ℕ) × Prints out (take n o.printed)) × Tells err (fault_text names faults.Write)
+
+abbrev pub ComesAbout : List (List ℕ) → Outcome → Output → Output → Exit → Type 0
+ComesAbout names o out err exit = Happens names o out err exit ⊎ Breaks names o out err exit
+
+-- one of these outcomes comes about
+abbrev pub Answers : (Outcome → Type 0) → List (List ℕ) → Output → Output → Exit → Type 0
+Answers outcomes names out err exit = (o : Outcome) × outcomes o × ComesAbout names o out err exit
+
+-- ---- the outcomes of files
+
+-- a file, of which this is the number, was not read: those before it were, within the limit, and the count of faults rose
+pub record IsUnreadFile (library : Library) (names : List (List ℕ)) (file : ℕ) : Type 0 where
+  pub named : HasName names file
+  pub texts : List (List ℕ)
+  pub are : AreFiles library.contents names texts
+  pub next : length texts + 1 ≡ file
+  pub within : bytes_in texts ≤ 1048576
+  pub rose : HasRisen library.faults_before library.faults_after
+
+abbrev pub FailsToRead : Library → List (List ℕ) → Outcome → Type 0
+FailsToRead library names o = (file : ℕ) × IsUnreadFile library names file × (o ≡ fault_outcome (faults.ReadFile file))
+
+-- memory was wanting, or a file was not read, or there are texts that come to such outcomes
+abbrev pub AnswersFiles : (Result Parts AsmFault → Outcome → Type 0) → Library → List (List ℕ) → Outcome → Type 0
+AnswersFiles outcomes library names o =
+    IsWant o ⊎ (FailsToRead library names o ⊎ ((texts : List (List ℕ)) × AreTexts library.contents names texts × outcomes (unit_of texts) o))
+
+-- ---- the outcomes of files on an input, by what their unit comes to on it
+
+-- nothing was taken of the input
+abbrev pub IsUntouched : Intake → Type 0
+IsUntouched intake = (intake.after ≡ intake.before) × (intake.faults_after ≡ intake.faults_before)
+
 -- the input, where it tells what it has; nothing of it is left
 abbrev pub IsInput : Intake → List ℕ → Type 0
 IsInput intake bytes = IfSome intake.before (λ told. (told ≡ bytes) × (intake.after ≡ Some []))
@@ -241,56 +273,41 @@ IsInput intake bytes = IfSome intake.before (λ told. (told ≡ bytes) × (intak
 abbrev pub IsLongInput : Intake → Type 0
 IsLongInput intake = IfSome intake.before (λ told. 16777216 < length told)
 
--- the input could not be read, since its count of faults rose: nothing is printed
-abbrev pub FailsToReadInput : List (List ℕ) → Intake → Seen → Exit → Type 0
-FailsToReadInput names intake seen exit =
-    (exit ≡ ReadFault) × HasRisen intake.faults_before intake.faults_after × seen.Printed [] × seen.Told (fault_text names faults.ReadInput)
+-- the input could not be read, since its count of faults rose
+abbrev pub FailsToReadInput : Intake → Outcome → Type 0
+FailsToReadInput intake o = HasRisen intake.faults_before intake.faults_after × (o ≡ fault_outcome faults.ReadInput)
 
--- the answer on the input: it could not be read, or it is too long, or the program runs on it
-abbrev pub AnswersInput : Bounds → Parts → List (List ℕ) → Intake → Seen → Exit → Type 0
-AnswersInput b parts names intake seen exit =
-    FailsToReadInput names intake seen exit
-    ⊎ ((IsLongInput intake × ComesAbout names (limit_outcome Input) seen exit)
-    ⊎ ((input : List ℕ) × IsInput intake input × (length input ≤ 16777216) × ((o : Outcome) × RunsTo b parts input o × ComesAbout names o seen exit)))
+-- the input could not be read, or it is too long, or the unit runs on it
+abbrev pub AnswersInput : (Parts → List ℕ → Outcome → Type 0) → Parts → Intake → Outcome → Type 0
+AnswersInput ends parts intake o =
+    FailsToReadInput intake o
+    ⊎ ((IsLongInput intake × (o ≡ fault_outcome (faults.Limit Input)))
+    ⊎ ((input : List ℕ) × IsInput intake input × (length input ≤ 16777216) × ends parts input o))
 
--- the answer of a run on texts: they are refused, and the input is as it was; or it goes on with the input
-abbrev pub AnswersTexts : Bounds → List (List ℕ) → List (List ℕ) → Intake → Seen → Exit → Type 0
-AnswersTexts b texts names intake seen exit =
-    ((intake.after ≡ intake.before) × ((o : Outcome) × RefusesTexts texts o × ComesAbout names o seen exit)) ⊎ ((parts : Parts) × IsRunnable texts parts × AnswersInput b parts names intake seen exit)
+-- the texts are refused, and the input is untouched; or their unit goes on with the input
+abbrev pub AnswersTexts : (Parts → List ℕ → Outcome → Type 0) → Result Parts AsmFault → Intake → Outcome → Type 0
+AnswersTexts ends read intake o =
+    (IsUntouched intake × ((fault : Fault) × RefusesTexts read fault × (o ≡ fault_outcome fault))) ⊎ ((parts : Parts) × IsRunnable read parts × AnswersInput ends parts intake o)
 
--- the answer of a run of files
-abbrev pub AnswersRun : Bounds → Option (List ℕ → Option (List ℕ)) → List (List ℕ) → Intake → Seen → Exit → Type 0
-AnswersRun b contents names intake seen exit =
-    RunsOut seen exit ⊎ (FailsToRead names seen exit ⊎ ((texts : List (List ℕ)) × AreTexts contents names texts × AnswersTexts b texts names intake seen exit))
+-- memory was wanting; or a file was not read, and the input is untouched; or there are texts
+abbrev pub AnswersRun : (Parts → List ℕ → Outcome → Type 0) → Library → List (List ℕ) → Intake → Outcome → Type 0
+AnswersRun ends library names intake o =
+    IsWant o ⊎ ((IsUntouched intake × FailsToRead library names o) ⊎ ((texts : List (List ℕ)) × AreTexts library.contents names texts × AnswersTexts ends (unit_of texts) intake o))
 
 -- ---- the answer
 
 -- the answer on a job that is built
-abbrev pub AnswersJob : Built → Option (List ℕ → Option (List ℕ)) → Intake → Seen → Exit → Type 0
-AnswersJob (Runs b files) contents intake seen exit = AnswersRun b contents files intake seen exit
-AnswersJob (Plains b files) contents intake seen exit = AnswersRun b contents files intake seen exit
-AnswersJob (Checks files) contents intake seen exit = AnswersFiles IsCheckOutcome contents files seen exit
-AnswersJob (Posts files) contents intake seen exit = AnswersFiles IsPostOutcome contents files seen exit
+abbrev pub AnswersJob : Built → Library → Intake → Output → Output → Exit → Type 0
+AnswersJob (Runs b files) library intake out err exit = Answers (AnswersRun (RunsTo b) library files intake) files out err exit
+AnswersJob (Plains b files) library intake out err exit = Answers (AnswersRun (RunsTo b) library files intake) files out err exit
+AnswersJob (Checks files) library intake out err exit = IsUntouched intake × Answers (AnswersFiles IsCheckOutcome library files) files out err exit
+AnswersJob (Posts files) library intake out err exit = IsUntouched intake × Answers (AnswersFiles IsPostOutcome library files) files out err exit
 
--- the words ask for no job, or for one that isn't built: nothing is printed
-abbrev pub RefusesWords : Seen → Exit → Type 0
-RefusesWords seen exit = (exit ≡ Usage) × seen.Printed [] × seen.Told (fault_text [] faults.Usage)
+-- the words ask for no job, or for one that isn't built
+abbrev pub RefusesWords : Intake → Output → Output → Exit → Type 0
+RefusesWords intake out err exit = IsUntouched intake × Answers (λ o. o ≡ fault_outcome faults.Usage) [] out err exit
 
 -- the answer of the program
-abbrev pub IsAnswer : List (List ℕ) → Option (List ℕ → Option (List ℕ)) → Intake → Seen → Exit → Type 0
-IsAnswer words contents intake seen exit =
-    RunsOut seen exit ⊎ ((AsksForNone words × RefusesWords seen exit) ⊎ ((job : Built) × AsksFor words job × AnswersJob job contents intake seen exit))
-
--- a sink has taken a text, or a prefix of it where its count of faults rose
-abbrev pub TookOrFailed : ℕ → ℕ → Option (List ℕ) → Option (List ℕ) → List ℕ → Type 0
-TookOrFailed faults_before faults_after before after text =
-    Appends before after text ⊎ (HasRisen faults_before faults_after × ((n : ℕ) × Appends before after (take n text)))
-
--- what is seen of a call by its sinks and counts
-abbrev pub seen_of : ℕ → ℕ → ℕ → ℕ → Option (List ℕ) → Option (List ℕ) → ℕ → ℕ → Option (List ℕ) → Option (List ℕ) → Seen
-seen_of files_before files_after out_before out_after out_old out_new err_before err_after err_old err_new = record {
-  Printed = Appends out_old out_new;
-  Told = TookOrFailed err_before err_after err_old err_new;
-  ReadRose = HasRisen files_before files_after;
-  WriteRose = HasRisen out_before out_after;
-}
+abbrev pub IsAnswer : List (List ℕ) → Library → Intake → Output → Output → Exit → Type 0
+IsAnswer words library intake out err exit =
+    Answers IsWant [] out err exit ⊎ ((AsksForNone words × RefusesWords intake out err exit) ⊎ ((job : Built) × AsksFor words job × AnswersJob job library intake out err exit))

@@ -1,9 +1,10 @@
--- Reading the input piece by piece. Moves: what one take moves; IsPart: what holds from take to take; InputFails, TakeFails: where reading
--- fails.
-use Rattle.std.specs.Prelude.{◌≡◌, ℕ, Bool, false, List, [], ◌++◌, Option, IfSome, IsSomeAnd}
+-- Reading the input piece by piece. Moves: what one take moves; IsPart: what holds from take to take; IsUntaken, IsInputFault: where
+-- reading fails.
+use Rattle.std.specs.Prelude.{◌≡◌, ◌⊎◌, ℕ, Bool, false, List, [], ◌++◌, Option, IfSome, IsSomeAnd}
 use Rattle.st_base.specs.Outside.{HasRisen}
-use Rattle.st_main.specs.declared.input.InputError.{InputError}
-use Rattle.st_main.specs.declared.input.InputError.TheVariants.{Fault, TooLong, OutOfMemory}
+use Rattle.st_base.specs.declared.limits.LimitKind.TheVariants.{Input}
+use Rattle.st_print.specs.declared.fault.Fault.{Fault}
+use Rattle.st_print.specs.declared.fault.Fault.TheVariants.{ReadInput, Limit}
 use Rattle.st_main.specs.Answer.{Intake, IsLongInput}
 
 -- bytes went from the front of what was left to the end of what was taken; none only where nothing was left
@@ -20,13 +21,9 @@ abbrev pub IsPart : Option (List ℕ) → Option (List ℕ) → List ℕ → Typ
 IsPart before left taken = IfSome before (λ all. IsSomeAnd left (λ rest. taken ++ rest ≡ all))
 
 -- one take fails only where the count rose
-abbrev pub TakeFails : ℕ → ℕ → InputError → Type 0
-TakeFails before after Fault = HasRisen before after
-TakeFails before after TooLong = ⊥
-TakeFails before after OutOfMemory = Unit {0}
+abbrev pub IsUntaken : ℕ → ℕ → Fault → Type 0
+IsUntaken before after fault = (fault ≡ ReadInput) × HasRisen before after
 
 -- reading fails where a take does, or the input is too long
-abbrev pub InputFails : Intake → InputError → Type 0
-InputFails intake Fault = HasRisen intake.faults_before intake.faults_after
-InputFails intake TooLong = IsLongInput intake
-InputFails intake OutOfMemory = Unit {0}
+abbrev pub IsInputFault : Intake → Fault → Type 0
+IsInputFault intake fault = ((fault ≡ ReadInput) × HasRisen intake.faults_before intake.faults_after) ⊎ ((fault ≡ Limit Input) × IsLongInput intake)

@@ -1,30 +1,23 @@
--- Reading files piece by piece. HasStart: what was read of one file; HasRead: what was read of all; FaultRose, NamesUnread: where reading
+-- Reading files piece by piece. HasStart: what was read of one file; HasRead: what was read of all; IsUnread, IsReadFault: where reading
 -- fails.
 use Rattle.std.specs.Prelude.{◌≡◌, ◌⊎◌, ℕ, ◌<◌, ◌≤◌, Bool, false, List, length, take, Option, Some, IfSome, IsSomeAnd, Err}
 use Rattle.st_base.specs.Outside.{HasRisen}
 use Rattle.st_line.specs.declared.fault.AsmFault.{AsmFault}
 use Rattle.st_line.specs.declared.fault.AsmKind.TheVariants.{TooLarge}
 use Rattle.st_asm.specs.Assembly.{unit_of}
-use Rattle.st_main.specs.declared.reading.ReadError.{ReadError}
-use Rattle.st_main.specs.declared.reading.ReadError.TheVariants.{Fault, OutOfMemory}
-use Rattle.st_main.specs.Answer.{AreTexts}
+use Rattle.st_print.specs.declared.fault.Fault.{Fault}
+use Rattle.st_print.specs.declared.fault.Fault.TheVariants.{ReadFile}
+use Rattle.st_main.specs.Answer.{AreTexts, IsUnreadFile, Library}
 
 -- ---- failing
 
--- a fault comes only where the count rose
-abbrev pub FaultRose : ℕ → ℕ → ReadError → Type 0
-FaultRose before after (Fault file) = HasRisen before after
-FaultRose before after OutOfMemory = Unit {0}
+-- the file of this number was not read, since the count rose
+abbrev pub IsUnread : ℕ → ℕ → ℕ → Fault → Type 0
+IsUnread number before after fault = (fault ≡ ReadFile number) × HasRisen before after
 
--- a fault is that of the file of this number
-abbrev pub FaultAt : ℕ → ReadError → Type 0
-FaultAt number (Fault file) = file ≡ number
-FaultAt number OutOfMemory = Unit {0}
-
--- a fault is that of one of so many files
-abbrev pub NamesUnread : ℕ → ReadError → Type 0
-NamesUnread count (Fault file) = (1 ≤ file) × (file ≤ count)
-NamesUnread count OutOfMemory = Unit {0}
+-- one of the files was not read
+abbrev pub IsReadFault : Library → List (List ℕ) → Fault → Type 0
+IsReadFault library names fault = (file : ℕ) × IsUnreadFile library names file × (fault ≡ ReadFile file)
 
 -- ---- one file
 

@@ -1,5 +1,5 @@
--- From texts to an image that is run. IsImageOfTexts: the image is of the unchanged code of their unit; Refuses: they are refused, or memory
--- was wanting; outcome_of_plain: what the end of a run comes to.
+-- From texts to an image that is run. IsImageOfTexts: the image is of the unchanged code of their unit; outcome_of_plain: what the
+-- end of a run comes to.
 use Rattle.std.specs.Prelude.{◌≡◌, ℕ, ◌≤◌, List, length, None, Some, Ok, option_map}
 use Rattle.st_base.specs.declared.image.Image.{Image}
 use Rattle.st_base.specs.declared.limits.Limits.{Limits}
@@ -14,10 +14,8 @@ use Rattle.st_plain.specs.Answer.{IsPlainImage, bounds_of}
 use Rattle.st_plain.specs.declared.whole.PlainEnd.{PlainEnd}
 use Rattle.st_plain.specs.declared.whole.PlainEnd.TheVariants.{Ended, Limit}
 use Rattle.st_main.specs.declared.outcome.Outcome.{Outcome}
-use Rattle.st_main.specs.declared.run.BuildError.{BuildError}
-use Rattle.st_main.specs.declared.run.BuildError.TheVariants.{Refused, OutOfMemory}
-use Rattle.st_main.specs.Answer.{RefusesUnit, RefusesTexts, limit_outcome, outcome_of_end, outcome_of_bounded}
-use Rattle.st_main.specs.Naming.{NamesAmong}
+use Rattle.st_print.specs.declared.fault.Fault.TheVariants as faults
+use Rattle.st_main.specs.Answer.{fault_outcome, outcome_of_end, outcome_of_bounded}
 
 -- ---- from texts to an image
 
@@ -35,25 +33,11 @@ IsImageOfTexts texts image = (parts : Parts) × (unit_of texts ≡ Ok parts) × 
 abbrev pub IsImageOfFiles : ℕ → Image → Type 0
 IsImageOfFiles files image = (texts : List (List ℕ)) × (length texts ≤ files) × IsImageOfTexts texts image
 
--- a unit is refused, or memory was wanting
-abbrev pub RefusesParts : Parts → BuildError → Type 0
-RefusesParts parts (Refused o) = RefusesUnit parts o
-RefusesParts parts OutOfMemory = Unit {0}
-
-abbrev pub Refuses : List (List ℕ) → BuildError → Type 0
-Refuses texts (Refused o) = RefusesTexts texts o
-Refuses texts OutOfMemory = Unit {0}
-
--- a refusal is told in one of the first so many files
-abbrev pub RefusesAmong : ℕ → BuildError → Type 0
-RefusesAmong files (Refused o) = NamesAmong files o
-RefusesAmong files OutOfMemory = Unit {0}
-
 -- ---- from an image to an outcome
 
 abbrev pub outcome_of_plain : PlainEnd → Outcome
 outcome_of_plain (Ended end) = outcome_of_end end
-outcome_of_plain (Limit kind) = limit_outcome kind
+outcome_of_plain (Limit kind) = fault_outcome (faults.Limit kind)
 
 -- the run of the image's program on an input, within limits, comes to this
 abbrev pub EndsSo : Image → List ℕ → Limits → Outcome → Type 0

@@ -1,46 +1,46 @@
 //! The command `check`.
-ghost use Rattle.std.specs.Prelude.{◌≡◌, ◌≤◌, ℕ, List, length, map, Ok, IfOk};
-ghost use Rattle.st_asm.specs.Assembly.{unit_of};
-ghost use Rattle.st_asm.specs.Reading.{parts_of};
+ghost use Rattle.std.specs.Prelude.{◌≡◌, ◌≤◌, ℕ, List, length, map, Ok, IfOk, IfErr, IfSome, string_bytes};
+ghost use Rattle.st_asm.specs.Assembly.{Parts, unit_of};
 ghost use Rattle.st_jobs.specs.Jobs.{file_texts};
-ghost use Rattle.st_main.specs.Answer.{AnswersFiles, IsCheckOutcome, IsUnitOutcome, seen_of};
-ghost use Rattle.st_main.specs.Naming.{NamesAmong};
+ghost use Rattle.st_print.specs.Telling.{NamesFiles};
+ghost use Rattle.st_main.specs.Answer.{Answers, AnswersFiles, IsAcceptedUnitOf, IsCanonical, IsCheckOutcome, IsUnaccepted, library_of, output_of, text_outcome};
+ghost use Rattle.st_main.specs.Complete.{CompletesFiles};
+ghost use Rattle.st_main.specs.Making.{IsNamed, MemoryOr, outcome_of};
 
 use crate::exit::Exit;
 use crate::outcome::Outcome;
-use crate::reading::read_texts;
-use crate::report::{answer, answer_unread};
-use st_asm::{AsmError, Unit, read_unit};
+use crate::reading::read_files;
+use crate::report::finish;
+use crate::texts::{accept_unit, make_unit};
 use st_base::outside::{Files, Sink};
-use st_check::{FormError, check};
 use st_jobs::Names;
-use st_print::unit_text;
-use std::alloc::{AllocError, Global};
+use st_print::{Fault, unit_text};
+use std::alloc::Global;
 
-/// What a unit comes to: its canonical text where it is accepted, else it is refused at its first fault.
-fn outcome_of_unit(alloc: Global, unit: &Unit) -> Result<Outcome, AllocError>
-    ensures outcome { IfOk result (IsUnitOutcome (parts_of unit.now)) }
-    ensures names { IfOk result (λ o. (texts : List (List ℕ)) → 1 ≤ length texts → unit_of texts ≡ Ok (parts_of unit.now) → NamesAmong (length texts) o) }
-{
-    match check(alloc, unit) {
-        Ok(checked) => Ok(Outcome::of_text(unit_text(alloc, checked.unit())?)),
-        Err(FormError::Fault(fault)) => Ok(Outcome::of_form_refusal(alloc, fault)),
-        Err(FormError::OutOfMemory) => Err(AllocError),
-    }
-}
-
-/// What the texts of 1 to 64 files come to: they are refused at their first fault, or go by their unit.
-fn outcome_of_texts(alloc: Global, texts: &[Vec<u8>]) -> Result<Outcome, AllocError>
+/// The canonical text of the accepted unit of 1 to 64 texts, or their first fault.
+fn check_texts(alloc: Global, texts: &[Vec<u8>]) -> Result<Vec<u8>, Fault>
     requires some { 1 ≤ length texts.now }
     requires few { length texts.now ≤ 64 }
-    ensures outcome { IfOk result (IsCheckOutcome (map (λ t. t.items) texts.now)) }
-    ensures names { IfOk result (NamesAmong (length texts.now)) }
+    ensures text { IfOk result (λ text. (parts : Parts) × IsAcceptedUnitOf (unit_of (map (λ t. t.items) texts.now)) parts × IsCanonical parts (text_outcome text.items)) }
+    ensures fault { IfErr result (MemoryOr (IsUnaccepted (unit_of (map (λ t. t.items) texts.now)))) }
+    ensures names { IfErr result (IsNamed (length texts.now)) }
 {
-    match read_unit(alloc, texts) {
-        Ok(unit) => outcome_of_unit(alloc, &unit),
-        Err(AsmError::Fault(fault)) => Ok(Outcome::of_refusal(alloc, fault)),
-        Err(AsmError::OutOfMemory) => Err(AllocError),
-    }
+    let unit = make_unit(alloc, texts)?;
+    let checked = accept_unit(alloc, &unit)?;
+    let text = unit_text(alloc, checked.unit())?;
+    Ok(text)
+}
+
+/// What the texts of 1 to 64 files come to.
+fn check_files<F: Files>(alloc: Global, files: &mut F, names: &[String]) -> Result<Outcome, Fault>
+    requires some { 1 ≤ length names.now }
+    requires few { length names.now ≤ 64 }
+    ensures answer { AnswersFiles IsCheckOutcome (library_of (F.contents files.old) (F.faults files.old) (F.faults files.new)) (map (λ n. string_bytes n) names.now) (outcome_of result) }
+    ensures names { IfSome (outcome_of result).fault (NamesFiles (map (λ n. string_bytes n) names.now)) }
+{
+    let texts = read_files(alloc, files, names)?;
+    let text = check_texts(alloc, texts.as_slice())?;
+    Ok(Outcome::of_text(text))
 }
 
 /// Reads the files in their order, and prints the canonical text of their unit where it is accepted; else tells its first fault.
@@ -52,11 +52,10 @@ pub fn check_command<F: Files, K: Sink>(
     out: &mut K,
     err: &mut K,
 ) -> Exit
-    ensures { AnswersFiles IsCheckOutcome (F.contents files.old) (file_texts args.now) (seen_of (F.faults files.old) (F.faults files.new) (K.faults out.old) (K.faults out.new) (K.taken out.old) (K.taken out.new) (K.faults err.old) (K.faults err.new) (K.taken err.old) (K.taken err.new)) result }
+    ensures answer { Answers (AnswersFiles IsCheckOutcome (library_of (F.contents files.old) (F.faults files.old) (F.faults files.new)) (file_texts args.now)) (file_texts args.now) (output_of (K.faults out.old) (K.faults out.new) (K.taken out.old) (K.taken out.new)) (output_of (K.faults err.old) (K.faults err.new) (K.taken err.old) (K.taken err.new)) result }
+    ensures complete { CompletesFiles IsCheckOutcome IsAcceptedUnitOf IsCanonical (library_of (F.contents files.old) (F.faults files.old) (F.faults files.new)) (file_texts args.now) (output_of (K.faults out.old) (K.faults out.new) (K.taken out.old) (K.taken out.new)) (output_of (K.faults err.old) (K.faults err.new) (K.taken err.old) (K.taken err.new)) result }
 {
     let names = args.as_slice();
-    match read_texts(alloc, files, names) {
-        Ok(texts) => answer(out, err, names, outcome_of_texts(alloc, texts.as_slice())),
-        Err(error) => answer_unread(out, err, names, error),
-    }
+    let outcome = Outcome::of(alloc, check_files(alloc, files, names));
+    finish(out, err, names, outcome)
 }

@@ -2,6 +2,7 @@
 ghost use Rattle.std.specs.Prelude.{◌≡◌};
 
 use st_base::limits::LimitKind;
+use st_print::Fault;
 
 /// How the program ends. Its status is 0 to 9, in this order.
 #[derive(Clone, Copy, PartialEq, Eq, Debug)]
@@ -26,7 +27,24 @@ pub enum Exit {
 }
 
 impl Exit {
-    ghost use Rattle.st_main.specs.Exit.{status_of};
+    ghost use Rattle.st_main.specs.Exit.{exit_at, status_of};
+
+    /// How the program ends at a fault.
+    pub fn at(fault: &Fault) -> Exit
+        ensures { result ≡ exit_at fault.now }
+    {
+        match fault {
+            Fault::Usage => Exit::Usage,
+            Fault::Reading(_) | Fault::Checking { .. } | Fault::Linking { .. } => Exit::Refused,
+            Fault::Trap { .. } => Exit::Trap,
+            Fault::Deadlock { .. } => Exit::Deadlock,
+            Fault::Waits { .. } => Exit::Waits,
+            Fault::Limit(kind) => Exit::Limit(*kind),
+            Fault::ReadFile { .. } | Fault::ReadInput => Exit::ReadFault,
+            Fault::Write => Exit::WriteFault,
+            Fault::OutOfMemory => Exit::OutOfMemory,
+        }
+    }
 
     /// The status with which the process ends.
     pub fn status(self) -> u8

@@ -1,68 +1,69 @@
 //! The command `post`.
-ghost use Rattle.std.specs.Prelude.{◌≡◌, ◌≤◌, ℕ, List, length, map, Ok, IfOk};
-ghost use Rattle.st_asm.specs.Assembly.{unit_of, Parts};
-ghost use Rattle.st_asm.specs.Reading.{parts_of};
+ghost use Rattle.std.specs.Prelude.{◌≡◌, ◌≤◌, ℕ, List, length, map, None, Ok, IfOk, IfErr, IfSome, string_bytes};
+ghost use Rattle.st_asm.specs.Assembly.{Parts, unit_of};
 ghost use Rattle.st_jobs.specs.Jobs.{file_texts};
-ghost use Rattle.st_main.specs.Answer.{AnswersFiles, IsLinkOutcome, IsPostOf, IsPostOutcome, seen_of};
-ghost use Rattle.st_main.specs.Naming.{NamesAmong};
+ghost use Rattle.st_model.specs.Layout.{far_branch};
+ghost use Rattle.st_print.specs.Telling.{NamesFiles};
+ghost use Rattle.st_check.specs.Programs.{program_of as program_of'};
+ghost use Rattle.st_main.specs.Answer.{Answers, AnswersFiles, IsLinkFault, IsListing, IsListingOf, IsPostOutcome, IsRunnable, RefusesTexts, library_of, output_of, text_outcome};
+ghost use Rattle.st_main.specs.Complete.{CompletesFiles};
+ghost use Rattle.st_main.specs.Making.{IsNamed, MemoryOr, outcome_of};
 
 use crate::exit::Exit;
 use crate::listing::listing;
 use crate::outcome::Outcome;
-use crate::reading::read_texts;
-use crate::report::{answer, answer_unread};
-use st_asm::{AsmError, Unit, read_unit};
+use crate::reading::read_files;
+use crate::report::finish;
+use crate::texts::{accept_unit, far_fault, make_unit};
 use st_base::outside::{Files, Sink};
-use st_check::{Checked, FormError, check};
+use st_check::Checked;
 use st_jobs::Names;
 use st_link::{LinkError, link};
 use st_post::postprocess;
-use std::alloc::{AllocError, Global};
+use st_print::Fault;
+use std::alloc::Global;
 
-/// What an accepted unit comes to: the listing of its postprocessed code, or it is refused at its first branch that doesn't
-/// reach.
-fn outcome_of_code(alloc: Global, checked: &Checked<'_>) -> Result<Outcome, AllocError>
-    ensures outcome { IfOk result (λ o. ∥ IsLinkOutcome checked.now.unit.now.functions o ∥₁) }
-    ensures names { IfOk result (λ o. (texts : List (List ℕ)) → (parts : Parts) → unit_of texts ≡ Ok parts → parts.functions ≡ checked.now.unit.now.functions → NamesAmong (length texts) o) }
+/// The listing of an accepted unit's postprocessed code, or its first branch that doesn't reach.
+fn post_checked(alloc: Global, checked: &Checked<'_>) -> Result<Vec<u8>, Fault>
+    ensures text { IfOk result (λ text. (far_branch (program_of' checked.now.unit.now.functions) ≡ None) × IsListingOf checked.now.unit.now.functions (text_outcome text.items)) }
+    ensures fault { IfErr result (MemoryOr (IsLinkFault checked.now.unit.now.functions)) }
+    ensures names { IfErr result (λ fault. (texts : List (List ℕ)) → (parts : Parts) → unit_of texts ≡ Ok parts → parts.functions ≡ checked.now.unit.now.functions → IsNamed (length texts) fault) }
 {
     let posted = postprocess(alloc, checked)?;
     match link(alloc, &posted) {
         Ok(image) => {
             let text = listing(alloc, posted.functions(), image.words.as_slice())?;
-            Ok(Outcome::of_text(text))
+            Ok(text)
         }
-        Err(LinkError::Fault(fault)) => Ok(Outcome::of_link_refusal(alloc, fault)),
-        Err(LinkError::OutOfMemory) => Err(AllocError),
+        Err(LinkError::Fault(fault)) => Err(far_fault(&fault)),
+        Err(LinkError::OutOfMemory) => Err(Fault::OutOfMemory),
     }
 }
 
-/// What a unit comes to: where it is accepted, by its code, else it is refused at its first fault.
-fn outcome_of_unit(alloc: Global, unit: &Unit) -> Result<Outcome, AllocError>
-    ensures outcome { IfOk result (λ o. ∥ IsPostOf (parts_of unit.now) o ∥₁) }
-    ensures names { IfOk result (λ o. (texts : List (List ℕ)) → 1 ≤ length texts → unit_of texts ≡ Ok (parts_of unit.now) → NamesAmong (length texts) o) }
-{
-    match check(alloc, unit) {
-        Ok(checked) => {
-            let outcome = outcome_of_code(alloc, &checked)?;
-            Ok(outcome)
-        }
-        Err(FormError::Fault(fault)) => Ok(Outcome::of_form_refusal(alloc, fault)),
-        Err(FormError::OutOfMemory) => Err(AllocError),
-    }
-}
-
-/// What the texts of 1 to 64 files come to: they are refused at their first fault, or go by their unit.
-fn outcome_of_texts(alloc: Global, texts: &[Vec<u8>]) -> Result<Outcome, AllocError>
+/// The listing of the postprocessed code of 1 to 64 texts, or the fault at which they are refused.
+fn post_texts(alloc: Global, texts: &[Vec<u8>]) -> Result<Vec<u8>, Fault>
     requires some { 1 ≤ length texts.now }
     requires few { length texts.now ≤ 64 }
-    ensures outcome { IfOk result (IsPostOutcome (map (λ t. t.items) texts.now)) }
-    ensures names { IfOk result (NamesAmong (length texts.now)) }
+    ensures text { IfOk result (λ text. (parts : Parts) × IsRunnable (unit_of (map (λ t. t.items) texts.now)) parts × IsListing parts (text_outcome text.items)) }
+    ensures fault { IfErr result (MemoryOr (RefusesTexts (unit_of (map (λ t. t.items) texts.now)))) }
+    ensures names { IfErr result (IsNamed (length texts.now)) }
 {
-    match read_unit(alloc, texts) {
-        Ok(unit) => outcome_of_unit(alloc, &unit),
-        Err(AsmError::Fault(fault)) => Ok(Outcome::of_refusal(alloc, fault)),
-        Err(AsmError::OutOfMemory) => Err(AllocError),
-    }
+    let unit = make_unit(alloc, texts)?;
+    let checked = accept_unit(alloc, &unit)?;
+    let text = post_checked(alloc, &checked)?;
+    Ok(text)
+}
+
+/// What the texts of 1 to 64 files come to.
+fn post_files<F: Files>(alloc: Global, files: &mut F, names: &[String]) -> Result<Outcome, Fault>
+    requires some { 1 ≤ length names.now }
+    requires few { length names.now ≤ 64 }
+    ensures answer { AnswersFiles IsPostOutcome (library_of (F.contents files.old) (F.faults files.old) (F.faults files.new)) (map (λ n. string_bytes n) names.now) (outcome_of result) }
+    ensures names { IfSome (outcome_of result).fault (NamesFiles (map (λ n. string_bytes n) names.now)) }
+{
+    let texts = read_files(alloc, files, names)?;
+    let text = post_texts(alloc, texts.as_slice())?;
+    Ok(Outcome::of_text(text))
 }
 
 /// Reads the files in their order, and prints the listing of their unit's postprocessed code where it is accepted and its branches
@@ -74,11 +75,10 @@ pub fn post_command<F: Files, K: Sink>(
     out: &mut K,
     err: &mut K,
 ) -> Exit
-    ensures { AnswersFiles IsPostOutcome (F.contents files.old) (file_texts args.now) (seen_of (F.faults files.old) (F.faults files.new) (K.faults out.old) (K.faults out.new) (K.taken out.old) (K.taken out.new) (K.faults err.old) (K.faults err.new) (K.taken err.old) (K.taken err.new)) result }
+    ensures answer { Answers (AnswersFiles IsPostOutcome (library_of (F.contents files.old) (F.faults files.old) (F.faults files.new)) (file_texts args.now)) (file_texts args.now) (output_of (K.faults out.old) (K.faults out.new) (K.taken out.old) (K.taken out.new)) (output_of (K.faults err.old) (K.faults err.new) (K.taken err.old) (K.taken err.new)) result }
+    ensures complete { CompletesFiles IsPostOutcome IsRunnable IsListing (library_of (F.contents files.old) (F.faults files.old) (F.faults files.new)) (file_texts args.now) (output_of (K.faults out.old) (K.faults out.new) (K.taken out.old) (K.taken out.new)) (output_of (K.faults err.old) (K.faults err.new) (K.taken err.old) (K.taken err.new)) result }
 {
     let names = args.as_slice();
-    match read_texts(alloc, files, names) {
-        Ok(texts) => answer(out, err, names, outcome_of_texts(alloc, texts.as_slice())),
-        Err(error) => answer_unread(out, err, names, error),
-    }
+    let outcome = Outcome::of(alloc, post_files(alloc, files, names));
+    finish(out, err, names, outcome)
 }

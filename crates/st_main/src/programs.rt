@@ -1,4 +1,5 @@
-//! Programs that the tests run.
+//! Programs that the tests run, and what is printed of them.
+use std::alloc::{AllocError, Global};
 
 /// `empty.s`: it gives its argument back.
 pub const EMPTY: &str = "main:
@@ -345,3 +346,130 @@ pub const KIND: &str = "main:
     addi sp,sp,32
     ret
 ";
+
+/// `leaf.s`: it saves no `ra`.
+pub const LEAF: &str = "main:
+    addi sp,sp,-16
+    sd s0,8(sp)
+    addi s0,sp,16
+    li a0,0
+    ld s0,8(sp)
+    addi sp,sp,16
+    jr ra
+";
+
+/// `slot.s`: a slot that one path leaves undefined.
+pub const SLOT: &str = "main:
+    .st_args 1,0
+    addi sp,sp,-32
+    sd ra,24(sp)
+    sd s0,16(sp)
+    addi s0,sp,32
+    beqz a0,.L0
+    sd a0,-24(s0)
+.L0:
+    ld a0,-24(s0)
+    ld ra,24(sp)
+    ld s0,16(sp)
+    addi sp,sp,32
+    ret
+";
+
+/// `killed.s`: a register that a call takes away.
+pub const KILLED: &str = "main:
+    addi sp,sp,-16
+    sd ra,8(sp)
+    sd s0,0(sp)
+    addi s0,sp,16
+    li t0,1
+    call st_poll
+    mv a0,t0
+    ld ra,8(sp)
+    ld s0,0(sp)
+    addi sp,sp,16
+    ret
+";
+
+/// `forked.s`: a fork gives no value.
+pub const FORKED: &str = "main:
+    addi sp,sp,-32
+    sd ra,24(sp)
+    sd s0,16(sp)
+    sd s8,8(sp)
+    addi s0,sp,32
+    .st_fork s8
+    call f
+    ld ra,24(sp)
+    ld s0,16(sp)
+    ld s8,8(sp)
+    addi sp,sp,32
+    ret
+f:
+    addi sp,sp,-16
+    sd ra,8(sp)
+    sd s0,0(sp)
+    addi s0,sp,16
+    li a0,0
+    ld ra,8(sp)
+    ld s0,0(sp)
+    addi sp,sp,16
+    ret
+";
+
+/// The canonical text of `empty.s`.
+pub const CANONICAL: &str = "main:
+    .st_args 1,0
+    .st_handles 0
+    addi sp,sp,-16
+    sd ra,8(sp)
+    sd s0,0(sp)
+    addi s0,sp,16
+    ld ra,8(sp)
+    ld s0,0(sp)
+    addi sp,sp,16
+    ret
+";
+
+/// `empty.s` with another sixth line.
+pub fn with_sixth_line(alloc: Global, line: &str) -> Result<String, AllocError> {
+    format!(in alloc;
+        "main:\n    .st_args 1,0\n    addi sp,sp,-16\n    sd ra,8(sp)\n    sd s0,0(sp)\n    {line}\n    ld ra,8(sp)\n    ld s0,0(sp)\n    addi sp,sp,16\n    ret\n"
+    )
+}
+
+/// The listing of `empty.s`.
+pub const LISTING: &str = "main:
+00010000 ff010113
+00010004 00113423
+00010008 00813023
+0001000c 01010413
+00010010 00040213
+00010014 ff823083
+00010018 ff023403
+0001001c 00417863
+00010020 0041e663
+00010024 00020113
+00010028 00008067
+0001002c fe023c23
+00010030 00008067
+00010034 00040213
+00010038 ff823083
+0001003c ff023403
+00010040 00008067
+";
+
+/// `far.s`: a branch over so many lines `nop` and an epilogue.
+pub fn far(alloc: Global, count: usize) -> Result<Vec<u8>, AllocError> {
+    let leave = b"ld ra,8(sp)\nld s0,0(sp)\naddi sp,sp,16\nret\n";
+    let mut text = Vec::from_slice(
+        alloc,
+        b"main:\n.st_args 1,0\naddi sp,sp,-16\nsd ra,8(sp)\nsd s0,0(sp)\naddi s0,sp,16\nbeqz a0,.Lend\n",
+    )?;
+    for _ in 0..count {
+        text.extend_from_slice(b"nop\n")?;
+    }
+    text.extend_from_slice(leave)?;
+    text.extend_from_slice(b".Lend:\n")?;
+    text.extend_from_slice(leave)?;
+    Ok(text)
+}

@@ -1,5 +1,6 @@
--- What a sink took in several puts. appends-none: nothing was put; appends-both: two puts, one after the other.
-use Rattle.std.proofs.Common.{◌≡◌, ℕ, ◌+◌, ◌≤◌, List, [], ◌++◌, length, take, drop, Option, Some, None, sym, ap, ◌∙◌, append_assoc, subst, arith, inl, inr}
+-- What a sink took in several puts. appends-none: nothing was put; appends-both: two puts, one after the other; longer-some: a text of
+-- which some is left isn't empty.
+use Rattle.std.proofs.Common.{◌≡◌, ℕ, ◌+◌, ◌<◌, ◌≤◌, List, [], ◌∷◌, ◌++◌, length, take, drop, Option, Some, None, sym, ap, ◌∙◌, append_assoc, subst, arith, inl, inr}
 use Rattle.std.proofs.lemmas.List.{append-nil, take-append-drop, take-append-le, length-take}
 use Rattle.std.proofs.Math.Seq.{take-add, take-append_seam, take-append-add}
 use Rattle.st_base.specs.Outside.{Appends, HasRisen}
@@ -17,6 +18,10 @@ appends-both (Some v) (Some w) (Some z) x y h k = k ∙ ap (λ t. t ++ y) h ∙ 
 -- a put that took as much of what was left
 pub appends-more : (a b c : Option (List ℕ)) (bytes : List ℕ) (m n : ℕ) → Appends a b (take m bytes) → Appends b c (take n (drop m bytes)) → Appends a c (take (m + n) bytes)
 appends-more a b c bytes m n h k = subst (Appends a c) (sym (take-add m n bytes)) (appends-both a b c (take m bytes) (take n (drop m bytes)) h k)
+
+pub longer-some : (n : ℕ) (bytes : List ℕ) → n < length bytes → bytes ≡ [] → ⊥
+longer-some n [] h e = absurd (omega arith)
+longer-some n (x ∷ bytes) h e = cc
 
 pub risen-later : (a b c : ℕ) → HasRisen a b → b ≤ c → HasRisen a c
 risen-later a b c (inl h) le = inl (omega (arith, h, le))
@@ -47,4 +52,4 @@ appends-front_of a b text x y e h = subst (λ t. (m : ℕ) × Appends a b (take 
 pub appends-behind_of : (a b c : Option (List ℕ)) (text x y : List ℕ) → text ≡ x ++ y → Appends a b x → ((n : ℕ) × Appends b c (take n y)) → (m : ℕ) × Appends a c (take m text)
 appends-behind_of a b c text x y e h k = subst (λ t. (m : ℕ) × Appends a c (take m t)) (sym e) (appends-behind a b c x y h k)
 
-pub ruleset appending = (appends-none, appends-more, risen-later, risen-earlier)
+pub ruleset appending = (appends-none, appends-more, longer-some, risen-later, risen-earlier)

@@ -16,10 +16,19 @@ use Rattle.st_base.specs.declared.limits.LimitKind.TheVariants as limits
 use Rattle.st_print.specs.Telling.{numbers_after, numbers_text, limit_text, fault_text, line_text, path_text, trap_text}
 use Rattle.st_print.proofs.Appending.{appends-both, appends-front_of, appends-behind_of, risen-earlier}
 
+append-some : (a b : List ℕ) → (b ≡ [] → ⊥) → a ++ b ≡ [] → ⊥
+append-some [] b some e = some e
+append-some (x ∷ a) b some e = cc
+
+append-some_front : (a b : List ℕ) → (a ≡ [] → ⊥) → a ++ b ≡ [] → ⊥
+append-some_front [] b some e = some refl
+append-some_front (x ∷ a) b some e = cc
+
 pub puts-then : {T E T' E' : Type 0} {x : T} {r : Result T' E'} {a b : List ℕ} {f0 f1 f2 : ℕ} {t0 t1 t2 : Option (List ℕ)} → (text : List ℕ) → text ≡ a ++ b → Puts {T = T} {E = E} a (Ok x) f0 f1 t0 t1 → Puts b r f1 f2 t1 t2 → Puts text r f0 f2 t0 t2
 puts-then {r = r} {a = a} {b = b} {f0 = f0} {f1 = f1} {f2 = f2} {t0 = t0} {t1 = t1} {t2 = t2} text e p q = record {
   faults = let h = p.faults in let k = q.faults in omega (arith, h, k);
   taken = on_ok_weaker r (λ more. subst (Appends t0 t2) (sym e) (appends-both t0 t1 t2 a b p.taken more)) q.taken;
+  some = on_err_weaker r (λ more none. append-some a b more (sym e ∙ none)) q.some;
   failed = on_err_weaker r (λ h. risen-earlier f0 f1 f2 p.faults h) q.failed;
   prefix = on_err_weaker r (λ more. appends-behind_of t0 t1 t2 text a b e p.taken more) q.prefix;
 }
@@ -29,13 +38,14 @@ puts-stop {s = Ok y} text b e h p = let no : ⊥ = (cc) in absurd no
 puts-stop {s = Err y} {a = a} {t0 = t0} {t1 = t1} text b e h p = record {
   faults = p.faults;
   taken = tt;
+  some = λ none. append-some_front a b p.some (sym e ∙ none);
   failed = p.failed;
   prefix = appends-front_of t0 t1 text a b e p.prefix;
 }
 
 -- what a loop has put so far
 pub puts-so_far : {T E : Type 0} {x : T} {a : List ℕ} {f0 f1 : ℕ} {t0 t1 : Option (List ℕ)} → f0 ≤ f1 → Appends t0 t1 a → Puts {T = T} {E = E} a (Ok x) f0 f1 t0 t1
-puts-so_far h k = record { faults = h; taken = k; failed = tt; prefix = tt }
+puts-so_far h k = record { faults = h; taken = k; some = tt; failed = tt; prefix = tt }
 
 -- what was put under another form of its text
 pub puts-as : {T E : Type 0} {r : Result T E} {a : List ℕ} {f0 f1 : ℕ} {t0 t1 : Option (List ℕ)} → (text : List ℕ) → text ≡ a → Puts a r f0 f1 t0 t1 → Puts text r f0 f1 t0 t1

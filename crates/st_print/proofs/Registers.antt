@@ -2,7 +2,7 @@
 use Rattle.std.proofs.Common.{◌≡◌, refl}
 use Rattle.st_base.specs.declared.reg.Reg.{Reg}
 use Rattle.st_base.specs.declared.reg.Reg.TheVariants as registers
-use Rattle.st_line.specs.Words.{register_name}
+use Rattle.st_line.specs.Registers.{register_name}
 use Rattle.st_print.specs.Canonical.{register_text}
 
 pub register_text_same : (r : Reg) → register_name r ≡ register_text r

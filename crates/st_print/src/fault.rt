@@ -5,6 +5,7 @@ use st_base::line::Line;
 use st_base::path::Path;
 use st_base::thread::TrapKind;
 use st_line::AsmFault;
+use std::alloc::{AllocError, AllocFailed};
 
 /// A fault, or an end that is told like one. Files are counted from 1, as in `Line`.
 #[derive(Drop)]
@@ -49,4 +50,26 @@ pub enum Fault {
     /// The output was not taken.
     Write,
     OutOfMemory,
+}
+
+impl From<AllocError> for Fault {
+    ghost use Rattle.std.specs.Prelude.{◌≡◌};
+    ghost use Rattle.st_print.specs.declared.fault.Fault.TheVariants.{OutOfMemory};
+
+    ghost from_gives = { λ _ e. e ≡ OutOfMemory };
+
+    fn from(_: AllocError) -> Self {
+        Fault::OutOfMemory
+    }
+}
+
+impl<T: Drop> From<AllocFailed<T>> for Fault {
+    ghost use Rattle.std.specs.Prelude.{◌≡◌};
+    ghost use Rattle.st_print.specs.declared.fault.Fault.TheVariants.{OutOfMemory};
+
+    ghost from_gives = { λ _ e. e ≡ OutOfMemory };
+
+    fn from(_: AllocFailed<T>) -> Self {
+        Fault::OutOfMemory
+    }
 }

@@ -1,20 +1,13 @@
-use Rattle.std.proofs.Common.{List, ℕ, map, string_bytes, subst}
-use Rattle.st_main.specs.Answer.{AnswersFiles, IsPostOutcome, Seen, seen_of}
-use Rattle.st_main.proofs.Answering.{answers-unread, post-answers}
+use Rattle.std.proofs.Common.{map, string_bytes, subst, sym}
+use Rattle.st_main.specs.Answer.{Answers, AnswersFiles, IsPostOutcome, library_of, output_of}
+use Rattle.st_main.proofs.Answering.{comes-about}
+use Rattle.st_main.proofs.Completing.{completes-post}
 use Rattle.st_main.proofs.post.post_command.Goals as goal
 
-pub returns-in-Ok : goal.returns-in-Ok
-returns-in-Ok g c =
-    let contents = g.F.Files.contents c.args.files.now in
-    let names : List (List ℕ) = map (λ n. string_bytes n) c.as_slice-names.result.now in
-    let seen : Seen = seen_of (g.F.Files.faults c.args.files.now) (g.F.Files.faults c.read_texts.new.files) (g.K.Sink.faults c.args.out.now) (g.K.Sink.faults c.answer.new.out) (g.K.Sink.taken c.args.out.now) (g.K.Sink.taken c.answer.new.out) (g.K.Sink.faults c.args.err.now) (g.K.Sink.faults c.answer.new.err) (g.K.Sink.taken c.args.err.now) (g.K.Sink.taken c.answer.new.err) in
-    subst (λ ns. AnswersFiles IsPostOutcome contents ns seen c.answer.result) c.as_slice-names.ensures
-    (post-answers contents names (map (λ t. t.items) c.in-Ok.texts.items) c.outcome_of_texts.result seen c.answer.result c.in-Ok.ensures.texts (rw c.as_slice.ensures.value at c.outcome_of_texts.ensures.outcome) (c.answer.ensures (g.F.Files.faults c.args.files.now) (g.F.Files.faults c.read_texts.new.files)))
+pub returns-clause-answer : goal.returns-clause-answer
+returns-clause-answer g c =
+    subst (λ ns. Answers (AnswersFiles IsPostOutcome (library_of (g.F.Files.contents c.args.files.now) (g.F.Files.faults c.args.files.now) (g.F.Files.faults c.post_files.new.files)) ns) ns (output_of (g.K.Sink.faults c.args.out.now) (g.K.Sink.faults c.finish.new.out) (g.K.Sink.taken c.args.out.now) (g.K.Sink.taken c.finish.new.out)) (output_of (g.K.Sink.faults c.args.err.now) (g.K.Sink.faults c.finish.new.err) (g.K.Sink.taken c.args.err.now) (g.K.Sink.taken c.finish.new.err)) c.finish.result) c.as_slice-names.ensures
+    (comes-about (AnswersFiles IsPostOutcome (library_of (g.F.Files.contents c.args.files.now) (g.F.Files.faults c.args.files.now) (g.F.Files.faults c.post_files.new.files)) (map (λ n. string_bytes n) c.as_slice-names.result.now)) (map (λ n. string_bytes n) c.as_slice-names.result.now) c.of-outcome.result (output_of (g.K.Sink.faults c.args.out.now) (g.K.Sink.faults c.finish.new.out) (g.K.Sink.taken c.args.out.now) (g.K.Sink.taken c.finish.new.out)) (output_of (g.K.Sink.faults c.args.err.now) (g.K.Sink.faults c.finish.new.err) (g.K.Sink.taken c.args.err.now) (g.K.Sink.taken c.finish.new.err)) c.finish.result (subst (AnswersFiles IsPostOutcome (library_of (g.F.Files.contents c.args.files.now) (g.F.Files.faults c.args.files.now) (g.F.Files.faults c.post_files.new.files)) (map (λ n. string_bytes n) c.as_slice-names.result.now)) (sym c.of-outcome.ensures) c.post_files.ensures.answer) c.finish.ensures)
 
-pub returns-in-Err : goal.returns-in-Err
-returns-in-Err g c =
-    let contents = g.F.Files.contents c.args.files.now in
-    let names : List (List ℕ) = map (λ n. string_bytes n) c.as_slice-names.result.now in
-    let seen : Seen = seen_of (g.F.Files.faults c.args.files.now) (g.F.Files.faults c.read_texts.new.files) (g.K.Sink.faults c.args.out.now) (g.K.Sink.faults c.answer_unread.new.out) (g.K.Sink.taken c.args.out.now) (g.K.Sink.taken c.answer_unread.new.out) (g.K.Sink.faults c.args.err.now) (g.K.Sink.faults c.answer_unread.new.err) (g.K.Sink.taken c.args.err.now) (g.K.Sink.taken c.answer_unread.new.err) in
-    subst (λ ns. AnswersFiles IsPostOutcome contents ns seen c.answer_unread.result) c.as_slice-names.ensures
-    (answers-unread IsPostOutcome contents names seen c.answer_unread.result (c.answer_unread.ensures (g.F.Files.faults c.args.files.now) (g.F.Files.faults c.read_texts.new.files) c.in-Err.ensures.fault))
+pub returns-clause-complete : goal.returns-clause-complete
+returns-clause-complete g c = completes-post _ _ _ _ _ (returns-clause-answer g c)

@@ -1,0 +1,11 @@
+use Rattle.std.proofs.Common.{map}
+use Rattle.std.specs.Prelude.{string_bytes}
+use Rattle.std.proofs.lemmas.Result.{err_from_is_err_and}
+use Rattle.st_main.specs.Answer.{IsUnaccepted, IsAcceptedUnitOf, IsCanonical, library_of}
+use Rattle.st_main.proofs.Answering.{refused-answers}
+use Rattle.st_main.proofs.check.check_files.Goals as goal
+
+pub returns-in_err-text-clause-answer : goal.returns-in_err-text-clause-answer
+returns-in_err-text-clause-answer g c =
+    let p = err_from_is_err_and c.from_residual-in_err-text.result c.from_residual-in_err-text.ensures.1 in
+    rw (p.1, p.2) (refused-answers IsUnaccepted IsAcceptedUnitOf IsCanonical (library_of (g.F.Files.contents c.args.files.now) (g.F.Files.faults c.args.files.now) (g.F.Files.faults c.read_files.new.files)) (map (λ n. string_bytes n) c.args.names.now) (map (λ t. t.items) c.in_ok-texts.texts.items) _ c.in_ok-texts.ensures.texts (rw c.as_slice.ensures.value at c.in_err-text.ensures.fault))
