@@ -1,11 +1,12 @@
+# Prints twelve stars by functions that call functions.
 main:
     addi sp,sp,-16
     sd ra,8(sp)
     sd s0,0(sp)
     addi s0,sp,16
+    call many               # six stars each
     call many
-    call many
-    li a0,10
+    li a0,10                # a line end
     call st_putc
     li a0,0
     ld ra,8(sp)
@@ -30,7 +31,7 @@ few:
     sd ra,8(sp)
     sd s0,0(sp)
     addi s0,sp,16
-    li a0,42
+    li a0,42                # a star
     call st_putc
     li a0,43
     addi a0,a0,-1
