@@ -22,8 +22,8 @@ set_next-requires c =
     let cells = cells_kept v u (SlotPut (Cell 2) c.joining.result no_cargo) Done c.slot_put.ensures.made.view s.cells in
     record { may = record { serves = c.slot_put.ensures.made.serves; may = asks_link (Exact b.words b.kept.cargoes 0) u 2 cells (omega arith) (in_hand_of u c.args.cell (joined_hand v u c.args.cell c.joining.result c.joining.ensures.1 c.requires.hand c.slot_put.ensures.made.view)) } }
 
-pub park_join-requires : goal.park_join-requires
-park_join-requires c =
+pub park_join-requires-clause-may : goal.park_join-requires-clause-may
+park_join-requires-clause-may c =
     let s = c.args.self.now in
     let v = view_at s.board.kept.views 0 in
     let u = view_at c.slot_put.new.self.kept.views 0 in
@@ -33,7 +33,7 @@ park_join-requires c =
     let cells = cells_kept u w (CellStore 2 words.Next 0) Done c.set_next.ensures.made.view put in
     let hand = joined_hand v u c.args.cell c.joining.result c.joining.ensures.1 c.requires.hand c.slot_put.ensures.made.view in
     let counter = joined_counter v u c.args.cell c.joining.result c.requires.counter c.slot_put.ensures.made.view in
-    record { may = record { serves = c.set_next.ensures.made.serves; may = asks_join (Exact b.words b.kept.cargoes 0) w c.args.cell cells c.requires.within (linked_counter u w c.args.cell counter c.set_next.ensures.made.view) (linked_hand u w c.args.cell hand c.set_next.ensures.made.view) } }
+    record { serves = c.set_next.ensures.made.serves; may = asks_join (Exact b.words b.kept.cargoes 0) w c.args.cell cells c.requires.within (linked_counter u w c.args.cell counter c.set_next.ensures.made.view) (linked_hand u w c.args.cell hand c.set_next.ensures.made.view) }
 
 pub invariant_of-self : goal.invariant_of-self
 invariant_of-self c =
