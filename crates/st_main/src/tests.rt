@@ -6,6 +6,7 @@ use crate::programs::{
     RACE, SLOT, SPILL, STUCK, far, with_sixth_line,
 };
 use st_base::limits::LimitKind;
+use std::alloc::{AllocError, Global};
 use std::test::Fail;
 
 const USAGE: &[u8] = b"usage: st_main COMMAND [OPTIONS] FILE...\n";
@@ -375,11 +376,16 @@ fn run_and_plain_end_alike(rt: HostRuntime) -> Result<(), Fail> {
     Ok(())
 }
 
+/// So many bytes of one kind. What they are, no proof has to know.
+fn filled(alloc: Global, byte: u8, count: usize) -> Result<Vec<u8>, AllocError> {
+    vec![in alloc; byte; count]
+}
+
 #[test]
 fn texts_and_input_end_at_their_limits(rt: HostRuntime) -> Result<(), Fail> {
     let alloc = rt.alloc();
-    let bytes = vec![in alloc; b'x'; 16_777_217]?;
-    let printed = vec![in alloc; b'.'; 1_048_576]?;
+    let bytes = filled(alloc, b'x', 16_777_217)?;
+    let printed = filled(alloc, b'.', 1_048_576)?;
     let printed = printed.as_slice();
     let out = Exit::Limit(LimitKind::Out);
     let input = Exit::Limit(LimitKind::Input);
