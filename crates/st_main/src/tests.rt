@@ -382,19 +382,36 @@ fn filled(alloc: Global, byte: u8, count: usize) -> Result<Vec<u8>, AllocError> 
 }
 
 #[test]
-fn texts_and_input_end_at_their_limits(rt: HostRuntime) -> Result<(), Fail> {
+fn the_output_ends_at_its_limit(rt: HostRuntime) -> Result<(), Fail> {
     let alloc = rt.alloc();
-    let bytes = filled(alloc, b'x', 16_777_217)?;
+    let bytes = filled(alloc, b'x', 1_048_577)?;
     let printed = filled(alloc, b'.', 1_048_576)?;
     let printed = printed.as_slice();
     let out = Exit::Limit(LimitKind::Out);
-    let input = Exit::Limit(LimitKind::Input);
-    let rows: [(&str, &str, usize, (Exit, &[u8], &[u8])); 5] = [
+    let rows: [(&str, &str, usize, (Exit, &[u8], &[u8])); 2] = [
         ("spill.s", SPILL, 1_048_576, (Exit::Done, printed, b"")),
         ("spill.s", SPILL, 1_048_577, (out, printed, b"limit Out\n")),
+    ];
+    for (name, text, count, want) in rows {
+        let list = words(alloc, "run", &[name])?;
+        let count = count.min(bytes.len());
+        let held = [(name, text.as_bytes())];
+        assert!(rt;
+            come_to(&rt, alloc, &list, &held, &bytes[..count], (0, 0, 0), want)?,
+            "{name} {count}"
+        );
+    }
+    Ok(())
+}
+
+#[test]
+fn the_input_ends_at_its_limit(rt: HostRuntime) -> Result<(), Fail> {
+    let alloc = rt.alloc();
+    let bytes = filled(alloc, b'x', 16_777_217)?;
+    let input = Exit::Limit(LimitKind::Input);
+    let rows: [(&str, &str, usize, (Exit, &[u8], &[u8])); 2] = [
         ("empty.s", EMPTY, 16_777_216, (Exit::Done, b"", b"")),
         ("empty.s", EMPTY, 16_777_217, (input, b"", b"limit Input\n")),
-        ("cut.s", CUT, 16_777_217, (input, b"", b"limit Input\n")),
     ];
     for (name, text, count, want) in rows {
         let list = words(alloc, "run", &[name])?;
