@@ -7,6 +7,7 @@ pub mod OutcomeSets
 pub mod Asking
 pub mod Answering
 pub mod Completing
+pub mod CompletingJobs
 pub mod Listings
 pub mod Posting
 pub mod Running

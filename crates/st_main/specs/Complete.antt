@@ -1,5 +1,5 @@
--- That a command does its work where nothing stands in its way: CompletesFiles of `check` and `post`, CompletesRun of a run. GoesWell says what
--- must not stand in the way: the files tell their texts, no count of faults rose, and memory wasn't wanting.
+-- That a command does its work where nothing stands in its way: CompletesFiles of `check` and `post`, CompletesRun of a run, Completes of the
+-- program. GoesWell says what must not stand in the way: the files tell their texts, no count of faults rose, and memory wasn't wanting.
 use Rattle.std.specs.Prelude.{◌≡◌, ℕ, ◌≤◌, List, length, Option, Some, Result}
 use Rattle.st_base.specs.Outside.{HasRisen}
 use Rattle.st_line.specs.declared.fault.AsmFault.{AsmFault}
@@ -8,7 +8,7 @@ use Rattle.st_asm.specs.Assembly.{Parts, unit_of}
 use Rattle.st_main.specs.declared.exit.Exit.{Exit}
 use Rattle.st_main.specs.declared.exit.Exit.TheVariants.{OutOfMemory}
 use Rattle.st_main.specs.declared.outcome.Outcome.{Outcome}
-use Rattle.st_main.specs.Answer.{Library, Intake, Output, AreTexts, Happens, IsRunnable, RefusesTexts, fault_outcome}
+use Rattle.st_main.specs.Answer.{Built, Runs, Plains, Checks, Posts, AsksFor, Library, Intake, Output, AreTexts, Happens, IsAcceptedUnitOf, IsCanonical, IsCheckOutcome, IsListing, IsPostOutcome, IsRunnable, RefusesTexts, RunsTo, fault_outcome}
 
 -- the files tell their texts; they were read and the output was taken without a fault; memory wasn't wanting
 pub record GoesWell (library : Library) (names texts : List (List ℕ)) (out : Output) (exit : Exit) : Type 0 where
@@ -29,3 +29,13 @@ pub record CompletesFiles (outcomes : Result Parts AsmFault → Outcome → Type
 pub record CompletesRun (ends : Parts → List ℕ → Outcome → Type 0) (library : Library) (names : List (List ℕ)) (intake : Intake) (out err : Output) (exit : Exit) : Type 0 where
   pub refused : (texts : List (List ℕ)) (fault : Fault) → GoesWell library names texts out exit → RefusesTexts (unit_of texts) fault → (told : Fault) × RefusesTexts (unit_of texts) told × Happens names (fault_outcome told) out err exit
   pub done : (texts : List (List ℕ)) (parts : Parts) (input : List ℕ) → GoesWell library names texts out exit → IsRunnable (unit_of texts) parts → intake.before ≡ Some input → (HasRisen intake.faults_before intake.faults_after → ⊥) → length input ≤ 16777216 → (o : Outcome) × ends parts input o × Happens names o out err exit
+
+abbrev pub CompletesJob : Built → Library → Intake → Output → Output → Exit → Type 0
+CompletesJob (Runs b files) library intake out err exit = CompletesRun (RunsTo b) library files intake out err exit
+CompletesJob (Plains b files) library intake out err exit = CompletesRun (RunsTo b) library files intake out err exit
+CompletesJob (Checks files) library intake out err exit = CompletesFiles IsCheckOutcome IsAcceptedUnitOf IsCanonical library files out err exit
+CompletesJob (Posts files) library intake out err exit = CompletesFiles IsPostOutcome IsRunnable IsListing library files out err exit
+
+-- the job that the words ask for, if it is built
+abbrev pub Completes : List (List ℕ) → Library → Intake → Output → Output → Exit → Type 0
+Completes words library intake out err exit = (job : Built) → AsksFor words job → CompletesJob job library intake out err exit

@@ -1,6 +1,7 @@
 //! The program as one call over the outside.
 ghost use Rattle.std.specs.Prelude.{◌≡◌, ◌⊎◌, List, [], map, Some, string_bytes, ℕ};
 ghost use Rattle.st_main.specs.Answer.{Answers, AsksForNone, IsAnswer, fault_outcome, intake_of, library_of, output_of};
+ghost use Rattle.st_main.specs.Complete.{Completes};
 ghost use Rattle.st_jobs.specs.Commands.{job_of};
 ghost use Rattle.st_jobs.specs.Jobs.{asked_of};
 ghost use Rattle.st_print.specs.Telling.{NamesFiles};
@@ -90,6 +91,7 @@ pub fn st_main<R: Threads + Wait + Sync, F: Files, S: Source, K: Sink, G: Gate +
     ensures usage { result ≡ Exit.Usage → AsksForNone (map (λ n. string_bytes n) words.now) }
     ensures none { AsksForNone (map (λ n. string_bytes n) words.now) → (result ≡ Exit.Usage) ⊎ (result ≡ Exit.OutOfMemory) }
     ensures answer { IsAnswer (map (λ n. string_bytes n) words.now) (library_of (F.contents files.old) (F.faults files.old) (F.faults files.new)) (intake_of (S.left input.old) (S.left input.new) (S.faults input.old) (S.faults input.new)) (output_of (K.faults out.old) (K.faults out.new) (K.taken out.old) (K.taken out.new)) (output_of (K.faults err.old) (K.faults err.new) (K.taken err.old) (K.taken err.new)) result }
+    ensures complete { Completes (map (λ n. string_bytes n) words.now) (library_of (F.contents files.old) (F.faults files.old) (F.faults files.new)) (intake_of (S.left input.old) (S.left input.new) (S.faults input.old) (S.faults input.new)) (output_of (K.faults out.old) (K.faults out.new) (K.taken out.old) (K.taken out.new)) (output_of (K.faults err.old) (K.faults err.new) (K.taken err.old) (K.taken err.new)) result }
 {
     answer_words(alloc, words, files, input, out, err)
 }
