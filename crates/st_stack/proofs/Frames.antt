@@ -1,5 +1,5 @@
 -- The list of exported frames as it is kept: what stands where, what an insert and a pop leave, and that there is room.
-use Rattle.std.proofs.Common.{◌≡◌, ◌≢◌, ◌⊎◌, inl, inr, ℕ, zero, suc, ◌+◌, ◌-◌, ◌*◌, ◌/◌, ◌<◌, ◌≤◌, Bool, true, false, List, [], ◌∷◌, length, get_or, Option, Some, None, refl, sym, ap, ◌∙◌, subst, arith, take, ltb, ltb-true, ltb-false, lt-ltb, cond, eq-eqb, nat_eq, ◌&&◌}
+use Rattle.std.proofs.Common.{◌≡◌, ◌≢◌, ◌⊎◌, inl, inr, ℕ, zero, suc, ◌+◌, ◌-◌, ◌*◌, ◌/◌, ◌<◌, ◌≤◌, Bool, true, false, List, [], ◌∷◌, length, get_or, Option, Some, None, refl, sym, ap, ◌∙◌, subst, arith, take, ltb, ltb-true, ltb-false, lt-ltb, eq-eqb, nat_eq, ◌&&◌}
 use Rattle.std.specs.Prelude.{◌%◌, ◌^◌}
 use Rattle.std.specs.List.{Contains, insert}
 use Rattle.std.specs.Option.{IfSome}
@@ -203,15 +203,6 @@ module _ (lo hi : ℕ) (fs : List Frame) (f : Frame) (n : ℕ) (on : AllOn lo hi
     were = λ g c. let found = at_of (insert fs n f) g c in were_at g found.0 found.1 found.2;
   }
 
-  -- whether or not it went in
-  pub either_on : (went : Bool) → AllOn lo hi (cond went (insert fs n f) fs)
-  either_on true = inserted_on
-  either_on false = on
-
-  pub either_falls : (went : Bool) → IsDescending (cond went (insert fs n f) fs)
-  either_falls true = inserted_falls
-  either_falls false = falls
-
   -- there is room for one more
   pub one_more : lo ≤ hi → length fs + 1 ≤ (hi - lo) / 16
   one_more l = let h : length (insert fs n f) ≤ (hi - lo) / 16 = few lo hi (insert fs n f) inserted_on inserted_falls l in omega (arith, h, longer)
@@ -270,7 +261,7 @@ module _ (lo hi : ℕ) (fs : List Frame) (f : Frame) (on : AllOn lo hi fs) (fall
 
 -- ---- what is sought
 
-falls_to : (lo hi : ℕ) (fs : List Frame) → AllOn lo hi fs → IsDescending fs → (i j : ℕ) → i ≤ j → j < length fs → (frame_at fs j).low ≤ (frame_at fs i).low
+pub falls_to : (lo hi : ℕ) (fs : List Frame) → AllOn lo hi fs → IsDescending fs → (i j : ℕ) → i ≤ j → j < length fs → (frame_at fs j).low ≤ (frame_at fs i).low
 falls_to lo hi fs on falls i j l h =
     elim (cases_lt i j) [
       | inl less ↦ let d : (frame_at fs j).base ≤ (frame_at fs i).low = falls i j less h in let some : (frame_at fs j).low < (frame_at fs j).base = (on j h).some in omega arith

@@ -1,3 +1,4 @@
 pub mod Frames
+pub mod Turned
 pub mod Laws
 pub mod Trying

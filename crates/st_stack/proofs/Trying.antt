@@ -171,3 +171,9 @@ may_again fs f only g c other = absurd (other (only g c))
 
 pub may_below : (fs : List Frame) (f g : Frame) → ((h : Frame) → Contains fs h → h ≡ g) → f.base ≤ g.low → MayExport fs f
 may_below fs f g only below h c other = inl (let e : h.low ≡ g.low = ap (λ x. x.low) (only h c) in omega arith)
+
+-- frames stay below an address that is above the one added
+pub added_below : (fs fs' : List Frame) (f : Frame) (r : Bool) (n m : ℕ) → ((h : Frame) → Contains fs h → h.base ≤ n) → f.base ≤ m → n ≤ m → IsAdded fs f r fs' → (h : Frame) → Contains fs' h → h.base ≤ m
+added_below fs fs' f true n m below low more (new, added) h there =
+    elim (added.were h there) [ inl same ↦ let e : h.base ≡ f.base = ap (λ (x : Frame). x.base) same in omega arith | inr old ↦ let o : h.base ≤ n = below h old in omega arith ]
+added_below fs fs' f false n m below low more (old, same) h there = let o : h.base ≤ n = below h (subst (λ xs. Contains xs h) same there) in omega arith

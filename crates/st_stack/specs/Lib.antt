@@ -1,4 +1,5 @@
 pub mod Exported
+pub mod Listing
 pub mod Shrinking
 pub mod FrameLaw
 pub mod Trying

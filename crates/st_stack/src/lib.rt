@@ -12,6 +12,9 @@
 #![tactic(auto)]
 
 pub mod calls;
+#[cfg(test)]
+mod full;
+mod list;
 pub mod stack;
 #[cfg(test)]
 mod tests;

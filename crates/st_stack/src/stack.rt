@@ -9,6 +9,7 @@ ghost use Rattle.st_stack.specs.FrameLaw.{FrameLaw, IsTop, MayJoin, KeepsLaw};
 ghost use Rattle.st_words.specs.Made.{Asked};
 ghost use Rattle.st_words.specs.Steps.{Look, return_place};
 
+use crate::list::FrameList;
 use st_base::chain::Frame;
 use st_words::board::{Board, NamesView};
 use std::alloc::{AllocError, Global};
@@ -21,20 +22,19 @@ const STACKS: u64 = 0x8000_0000;
 #[derive(Drop)]
 pub struct PhysStack {
     /// From the highest to the lowest.
-    frames: Vec<Frame>,
+    frames: FrameList,
     lo: u64,
     hi: u64,
 }
 
 impl Model for PhysStack {
-    ghost use Rattle.std.specs.Prelude.{vec_capacity};
     ghost use Rattle.st_stack.specs.Exported.{Exports, IsKept};
 
     ghost Value = { Exports };
 
-    ghost view = { λ s. record { exported = s.frames.items; lo = s.lo; hi = s.hi } };
+    ghost view = { λ s. record { exported = s.frames.frames; lo = s.lo; hi = s.hi } };
 
-    ghost invariant = { λ s. IsKept s.lo s.hi (vec_capacity s.frames) s.frames.items };
+    ghost invariant = { λ s. IsKept s.lo s.hi s.frames.room s.frames.frames };
 }
 
 /// What a step of shrinking comes to.
@@ -54,7 +54,7 @@ impl PhysStack {
         ensures none { IfOk result (λ s. s.exported ≡ []) }
         ensures ends { IfOk result (λ s. (s.lo ≡ lo) × (s.hi ≡ hi)) }
     {
-        let frames = Vec::with_capacity(alloc, ((hi - lo) / 16) as usize)?;
+        let frames = FrameList::with_capacity(alloc, ((hi - lo) / 16) as usize)?;
         Ok(PhysStack { frames, lo, hi })
     }
 
@@ -65,7 +65,7 @@ impl PhysStack {
         ensures on { (f : Frame) → Contains self.now.exported f → IsFrameOn self.now.lo self.now.hi f }
         ensures range { IsRange self.now.lo self.now.hi }
     {
-        self.frames.last().copied()
+        self.frames.last()
     }
 
     /// The least low end of an exported frame, or the stack's high end.
@@ -91,7 +91,7 @@ impl PhysStack {
     fn frames_above(&self, f: Frame) -> usize
         ensures { IsPlaceOf f self.now.exported result }
     {
-        self.frames.partition_point(|g| g.low > f.low)
+        self.frames.place(f)
     }
 
     /// Where a frame stands among the exported ones; else where it would.
@@ -100,7 +100,7 @@ impl PhysStack {
     {
         let at = self.frames_above(f);
         match self.frames.get(at) {
-            Some(g) if *g == f => Ok(at),
+            Some(g) if g == f => Ok(at),
             _ => Err(at),
         }
     }
@@ -141,9 +141,7 @@ impl PhysStack {
         let Err(at) = self.find(f) else {
             return false;
         };
-        let Ok(()) = self.frames.insert(at, f) else {
-            unreachable!()
-        };
+        self.frames.insert(at, f);
         true
     }
 
