@@ -1,7 +1,6 @@
-use Rattle.std.proofs.Common.{arith, sym, subst}
+use Rattle.std.proofs.Common.{refl, sym, arith, true}
 use Rattle.st_words.specs.Plain.{Exact, view_at}
-use Rattle.st_steal.specs.Trying.{Fits}
-use Rattle.st_steal.proofs.Trying.{asks_withdraw, withdraw_fits, with_answerer}
+use Rattle.st_steal.proofs.Trying.{asker_is, asks_withdraw, withdraw_has, request_leaves, answerer_stays}
 use Rattle.st_steal.proofs.tests.Pair.withdraw.Goals as goal
 
 pub withdraw-answer-requires : goal.withdraw-answer-requires
@@ -9,17 +8,21 @@ withdraw-answer-requires c =
     let s = c.args.self.now in
     let v = view_at s.board.kept.views 0 in
     let u = view_at s.board.kept.views 1 in
-    record { may = record { serves = omega (arith, s.serves); may = asks_withdraw (Exact s.board.words s.board.kept.cargoes 0) v u s.begun (subst (λ x. Fits v u x s.begun) c.requires s.fits) } }
+    record { may = record { serves = omega (arith, s.serves); may = asks_withdraw (Exact s.board.words s.board.kept.cargoes 0) v s.asker.quiet s.asker.given s.asker.taken (asker_is v s.asker.asks s.asker.quiet s.asker.given s.asker.taken true s.asker.quiet s.asker.given s.asker.taken c.requires refl refl refl s.asker_has) } }
 
 pub invariant_of-self : goal.invariant_of-self
 invariant_of-self c =
     let s = c.args.self.now in
-    let b = c.withdraw-answer.new.board in
     let v = view_at s.board.kept.views 0 in
     let u = view_at s.board.kept.views 1 in
-    let made = c.withdraw-answer.ensures.made in
-    let others = made.1.others 1 (λ e. omega (arith, e)) s.serves in
+    let b = c.withdraw-answer.new.board in
+    let v2 = view_at b.kept.views 0 in
+    let u2 = view_at b.kept.views 1 in
+    let made = c.withdraw-answer.ensures.made.1 in
+    let others = made.others 1 (λ e. omega (arith, e)) (s.serves) in
     record {
       serves = others.0;
-      fits = subst (λ x. Fits (view_at b.kept.views 0) (view_at b.kept.views 1) x s.begun) (sym c.is_err-self.ensures.value) (with_answerer (view_at b.kept.views 0) u (view_at b.kept.views 1) _ s.begun others.1 (withdraw_fits v u (view_at b.kept.views 0) s.begun made.0 c.withdraw-answer.result (subst (λ x. Fits v u x s.begun) c.requires s.fits) made.2 made.1.view));
+      asker_has = asker_is v2 _ s.asker.quiet s.asker.given s.asker.taken _ s.asker.quiet s.asker.given s.asker.taken (sym c.is_err-self.ensures.value) refl refl refl (withdraw_has v v2 s.asker.quiet s.asker.given s.asker.taken c.withdraw-answer.ensures.made.0 c.withdraw-answer.result (asker_is v s.asker.asks s.asker.quiet s.asker.given s.asker.taken true s.asker.quiet s.asker.given s.asker.taken c.requires refl refl refl s.asker_has) c.withdraw-answer.ensures.made.2 made.view);
+      answerer_has = answerer_stays u u2 s.answerer.begun s.answerer.put s.answerer.told s.answerer.ended others.1 s.answerer_has;
+      mail_has = request_leaves s.board.words b.words 0 1 1 0 c.withdraw-answer.ensures.made.0 s.full made.did.words s.mail_has;
     }
