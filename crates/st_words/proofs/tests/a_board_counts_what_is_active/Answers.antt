@@ -1,6 +1,0 @@
-use Rattle.st_words.specs.Plain.{Exact, view_at}
-use Rattle.st_words.proofs.Rooting.{asks_active_add}
-use Rattle.st_words.proofs.tests.a_board_counts_what_is_active.Goals as goal
-
-pub active_add-requires : goal.active_add-requires
-active_add-requires g c = record { may = record { serves = c.in_ok-board.ensures.serves; may = asks_active_add (Exact c.in_ok-board.board.words c.in_ok-board.board.kept.cargoes 0) (view_at c.in_ok-board.board.kept.views 0) c.in_ok-board.ensures.share } }
