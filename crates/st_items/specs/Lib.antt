@@ -1,0 +1,10 @@
+pub mod Code
+pub mod Tables
+pub mod Rows
+pub mod Ways
+pub mod Body
+pub mod Entered
+pub mod Left
+pub mod Called
+pub mod Copied
+pub mod Laws
