@@ -1,7 +1,8 @@
 -- The code at its addresses, in either layout: the instruction of each word of an item (item_code), and of items that name no function and no
 -- entry all of them as the laws of runs want it (local_code). An item's words lie in memory's low part (address_bounds), at multiples of
 -- 4 (address_multiple), the next item's behind them (next_address), a function's first at its address (first_address), and none at an
--- entry (not_entry).
+-- entry (not_entry). Behind its items a function has its pure copy (copy_code, copy_bounds). What is accepted and has its size has no
+-- more code than the words that are spoken of here (sized).
 use Rattle.std.proofs.Common.{◌≡◌, ◌∙◌, ℕ, zero, suc, ◌+◌, ◌*◌, ◌%◌, ◌≤◌, ◌<◌, pos, Bool, true, false, List, [], ◌∷◌, ◌++◌, Some, None, length, take, cond, slice_get, refl, ap, sym, subst, arith}
 use Rattle.std.specs.Prelude.{ℤ, int_lt, not, ◌&&◌, ◌==◌, nat_lt, nat_le}
 use Rattle.std.proofs.lemmas.Bool.{le-ltb, lt-leb}

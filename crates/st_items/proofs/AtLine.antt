@@ -1,4 +1,4 @@
--- The machine at an item of one line (IsAtLine), and what such an item's effect asks: a result in a register (line_result), other
+-- The machine at an item of one line, and what such an item's effect asks (EffectStands): a result in a register (line_result), other
 -- slots (line_stored), another item (line_goes_to) or a trap (line_traps); nothing where a number or a name isn't defined (number_cases, name_cases).
 use Rattle.std.proofs.Common.{Bool, true, false, ◌≡◌, ℕ, ◌+◌, ◌^◌, ◌<◌, List, Option, Some, None, refl, ap, ◌∙◌, arith}
 use Rattle.std.proofs.Math.Nat.{mod-eq_of_lt}

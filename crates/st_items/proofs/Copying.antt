@@ -1,24 +1,28 @@
 -- A pure copy leads from a frame to its caller (copies): it comes back to the frame's return word, with the caller's base in s0 and the registers
 -- that a call keeps, and changes no word. So what was older than the activation stands on the machine then (copy_stands).
-use Rattle.std.proofs.Common.{ℕ, ◌+◌, ◌^◌, ◌<◌, Bool, List, length, refl, ap, sym, ◌∙◌, subst, arith}
+-- On its way it adds, loads and returns alone (copy_reads).
+use Rattle.std.proofs.Common.{ℕ, ◌+◌, ◌^◌, ◌<◌, Bool, List, length, refl, ap, sym, ◌∙◌, subst, arith, ◌≡◌, ℤ, pos, zero, suc, ◌*◌, true, [], ◌∷◌, ◌++◌, Option, Some, slice_get}
 use Rattle.st_base.specs.declared.reg.Reg.{Reg}
 use Rattle.st_base.specs.declared.reg.Reg.TheVariants as registers
 use Rattle.st_base.specs.declared.thread.Activation.{Activation}
 use Rattle.st_model.specs.declared.code.Layout.TheVariants.{Postprocessed}
+use Rattle.st_rv.specs.declared.ins.Ins.{Ins}
+use Rattle.st_model.specs.declared.code.PostedIns.{PostedIns}
+use Rattle.st_model.specs.declared.code.PostedIns.TheVariants as posted
 use Rattle.st_model.specs.declared.program.Program.{Program}
 use Rattle.st_model.specs.declared.program.ProgramFunction.{ProgramFunction}
 use Rattle.st_model.specs.Accepted.{HasFrame}
-use Rattle.st_model.specs.Layout.{saved_of, items_size, pure_copy_ins}
+use Rattle.st_model.specs.Layout.{saved_of, items_size, loads, ld, below, return, restoring_ins, pure_copy_ins}
 use Rattle.st_model.specs.Memory.{Data}
 use Rattle.st_model.proofs.CodeSize.{copy_length}
 use Rattle.st_step.specs.declared.state.State.{State as MachineState}
 use Rattle.st_step.specs.Moves.{register, written, at_place}
-use Rattle.st_step.specs.Runs.{Situation, IsBase, HoldsFrame, HasCode, RunsStretch, return_word, caller_word, with_caller}
+use Rattle.st_step.specs.Runs.{Situation, IsBase, HoldsFrame, HasCode, RunsStretch, return_word, caller_word, with_caller, local_ins}
 use Rattle.st_step.specs.Frames.{Naming, value_in, with_saved_values}
 use Rattle.st_step.proofs.Restoring.{pure_copy_law}
 use Rattle.st_items.specs.Code.{code_at}
 use Rattle.st_items.specs.Body.{Ends, Context, SeesOutside, IsFramed}
-use Rattle.st_items.specs.Copied.{IsAtCopy, Older}
+use Rattle.st_items.specs.Copied.{copy_address, IsAtCopy, Older, is_reading}
 use Rattle.st_items.proofs.Addresses.{copy_code, copy_bounds}
 use Rattle.st_items.proofs.Callers.{IsMachine, machine_written, IsBack, called_back, called_sp, back_over, back_kept, back_other}
 use Rattle.st_items.proofs.ItemCode.{formed_of}
@@ -100,3 +104,48 @@ copy_stands names older ends bottom t u function a sees framed copy =
     let seen = sees a.kind a.kept t.word u.word (with_saved_values t.word b 0 saved (value_in t.state)) (value_in u.state) (t.word (caller_word b)) (t.word (return_word b)) (λ q out. ap (λ (w : ℕ → ℕ). w q) (sym copy.word)) (λ x is. sym (copy.value x is)) framed.below in
     subst (λ (n : ℕ). older a.kind a.kept u.word (value_in u.state) (register u.state registers.S0) n) (sym copy.pc)
     (subst (λ (n : ℕ). older a.kind a.kept u.word (value_in u.state) n (t.word (return_word b))) (sym copy.fp) seen)
+
+-- ---- what a copy does on its way
+
+abbrev IsReading : PostedIns → Type 0
+IsReading (posted.Plain i) = is_reading i.op ≡ true
+IsReading _ = ⊥
+
+abbrev AllReading : List PostedIns → Type 0
+AllReading [] = Prim.Unit
+AllReading (i ∷ is) = IsReading i × AllReading is
+
+both_reading : (is js : List PostedIns) → AllReading is → AllReading js → AllReading (is ++ js)
+both_reading [] js first second = second
+both_reading (i ∷ is) js first second = (first.0, both_reading is js first.1 second)
+
+loads_reading : (source : Reg) (top : ℤ) (k : ℕ) (rs : List Reg) → AllReading (loads source top k rs)
+loads_reading source top k [] = tt
+loads_reading source top k (r ∷ rs) = (refl, loads_reading source top (k + 1) rs)
+
+copy_reading : (saved : List Reg) → AllReading (pure_copy_ins saved)
+copy_reading saved =
+    both_reading (restoring_ins saved) (return ∷ []) (refl, (refl, both_reading (loads registers.Tp (pos 0) 0 saved) (ld registers.S0 (below 16) registers.Tp ∷ []) (loads_reading registers.Tp (pos 0) 0 saved) (refl, tt))) (refl, tt)
+
+reading_is : (at : ℕ) (i : PostedIns) (x : Ins) → IsReading i → local_ins at i ≡ Some x → is_reading x.op ≡ true
+reading_is at (posted.Plain i) x reading same = let e : i ≡ x = cc in subst (λ (j : Ins). is_reading j.op ≡ true) e reading
+reading_is at (posted.Branch op rs1 rs2 to) x reading same = absurd reading
+reading_is at (posted.Jump to) x reading same = absurd reading
+reading_is at (posted.Call f) x reading same = absurd reading
+reading_is at (posted.Entry entry) x reading same = absurd reading
+
+reading_at : (code : ℕ → Option Ins) (pc at : ℕ) (is : List PostedIns) (k : ℕ) → AllReading is → HasCode code pc at is → k < length is → (i : Ins) × (code (pc + 4 * k) ≡ Some i) × (is_reading i.op ≡ true)
+reading_at code pc at [] k all has inside = absurd (omega arith)
+reading_at code pc at (i ∷ is) zero all ((x, local, there), rest) inside =
+    let here : pc + 4 * 0 ≡ pc = omega arith in
+    (x, ap code here ∙ there, reading_is at i x all.0 local)
+reading_at code pc at (i ∷ is) (suc k) all (first, rest) inside =
+    let (x, there, reading) = reading_at code (pc + 4) (at + 1) is k all.1 rest (omega arith) in
+    let here : pc + 4 * suc k ≡ pc + 4 + 4 * k = omega arith in
+    (x, ap code here ∙ there, reading)
+
+-- at each word of a copy stands an instruction that adds, loads or returns
+pub copy_reads : (p : Program) (f : ℕ) (function : ProgramFunction) (k : ℕ) → slice_get p.functions f ≡ Some function → k < 4 + length (saved_of function) → (i : Ins) × (code_at Postprocessed p (copy_address p f function + 4 * k) ≡ Some i) × (is_reading i.op ≡ true)
+copy_reads p f function k named inside =
+    let long = copy_length function in
+    reading_at (code_at Postprocessed p) (copy_address p f function) (items_size Postprocessed function function.items) (pure_copy_ins (saved_of function)) k (copy_reading (saved_of function)) (copy_code Postprocessed p f function named) (omega arith)

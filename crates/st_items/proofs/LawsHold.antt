@@ -2,9 +2,9 @@
 use Rattle.std.proofs.Common.{arith}
 use Rattle.st_model.specs.Layout.{saved_of}
 use Rattle.st_step.proofs.SavedList.{saved_fit}
-use Rattle.st_items.specs.Laws.{CodesFit, CodeOfItems, ItemsLieLow, ItemsFollow, NoEntries, ImagesTell, RowsFound, CallsJump, GotosJump, EntriesJump, ForksJump, BranchesGo, ThirdsEnd, StretchesLead, CopiesLead, FramesFound, FramesAlone, WritesHidden}
+use Rattle.st_items.specs.Laws.{CodesFit, CodeOfItems, ItemsLieLow, ItemsFollow, NoEntries, ImagesTell, RowsFound, CallsJump, GotosJump, EntriesJump, ForksJump, BranchesGo, ThirdsEnd, StretchesLead, CopiesLead, CopiesRead, FramesFound, FramesAlone, WritesHidden}
 use Rattle.st_items.proofs.Addresses.{sized, item_code, address_bounds, next_address, not_entry}
-use Rattle.st_items.proofs.Copying.{copies}
+use Rattle.st_items.proofs.Copying.{copies, copy_reads}
 use Rattle.st_items.proofs.Entering.{frame_under}
 use Rattle.st_items.proofs.FrameWords.{frame_found, caller_found, return_found, frame_above}
 use Rattle.st_items.proofs.Jumps.{call_jumps, goto_jumps, entry_jumps, entry_small, fork_in_jumps, fork_call_jumps, fork_out_jumps, branch_code, branch_target}
@@ -60,6 +60,9 @@ stretches_lead layout p d held f function i item has words count s t here fits r
 
 pub copies_lead : CopiesLead
 copies_lead p d held ends bottom t f function at = copies p d held ends bottom t f function at
+
+pub copies_read : CopiesRead
+copies_read p f function k named inside = copy_reads p f function k named inside
 
 pub frames_found : FramesFound
 frames_found m b rs word value x room = (return_found m b rs word room, caller_found m b rs word room, (λ same. frame_found m b rs word value x room same))

@@ -1,5 +1,5 @@
--- The items of one line that lead to an item of the same activation, or trap: plain instructions, `li`, branches and jumps do on the machine what the
--- ordinary-call run does (line_goes).
+-- The items of one line that lead to an item of the same activation, or trap: plain instructions, `li`, branches and jumps do on the machine what
+-- their effect says (line_goes).
 use Rattle.std.proofs.Common.{Bool, ◌≡◌, ℕ, refl}
 use Rattle.st_rv.specs.declared.ins.OpKind.{OpKind}
 use Rattle.st_rv.specs.declared.ins.OpKind.TheVariants as kinds

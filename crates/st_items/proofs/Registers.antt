@@ -1,4 +1,4 @@
--- Registers that the instructions of a function's body name: they are none of ra, sp and s0 (body_apart). A write to one of them is the same
+-- Registers that the instructions of a function's body name: they are none of ra, sp, gp and s0 (body_apart). A write to one of them is the same
 -- to the file and to the machine (file_written, frameless_written), and a kept one that a function may write is among those that it saves,
 -- so that its callers see no change (kept_written).
 use Rattle.std.proofs.Common.{◌≡◌, ◌≢◌, ◌⊎◌, inl, inr, ℕ, zero, suc, ◌+◌, ◌<◌, ◌≤◌, ◌==◌, Bool, true, false, cond, List, [], ◌∷◌, length, Some, None, slice_get, slice_set, slice_index, slice_index_or, refl, ap, sym, ◌∙◌, subst, arith, if◌then◌else◌}
@@ -27,7 +27,7 @@ use Rattle.st_items.proofs.SavedRegisters.{saved_same, value-written_other}
 abbrev pub IsOfBody : Reg → Type 0
 IsOfBody r = IsInt r ⊎ IsHandle r
 
--- it is none of ra, sp and s0
+-- it is none of ra, sp, gp and s0
 pub record IsApart (r : Reg) : Type 0 where
   pub ra : reg_number r ≢ 1
   pub sp : reg_number r ≢ 2

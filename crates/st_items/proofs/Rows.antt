@@ -1,5 +1,5 @@
--- The rows of a program ascend (rows_ascend), and the row of a function is found by the addresses of its code (row_found). A search by halves among
--- rows that ascend finds the first whose code ends behind an address (parted, found_at, got).
+-- The rows of a program ascend (rows_ascend), and the row of a function is found by the addresses of its code (row_found, row_of_item). A
+-- search by halves among rows that ascend finds the first whose code ends behind an address (parted, found_at, got).
 use Rattle.std.proofs.Common.{◌≡◌, ℕ, zero, suc, ◌+◌, ◌*◌, ◌<◌, ◌≤◌, Bool, true, false, List, [], ◌∷◌, length, take, Option, Some, None, slice_get, get_or, Bor, leb, nat_lt, refl, ap, sym, ◌∙◌, arith, if◌then◌else◌}
 use Rattle.std.specs.List.Sorted.{IsPartitionedBy, IsPartitionPoint}
 use Rattle.std.specs.Option.{is_some, IfSome, option_copied}
@@ -7,9 +7,13 @@ use Rattle.std.proofs.lemmas.Bool.{leb-true, le-leb, leb-false, lt-ltb, le-ltb, 
 use Rattle.std.proofs.lemmas.Option.{slice_get-get_or}
 use Rattle.st_base.specs.declared.image.FrameRow.{FrameRow}
 use Rattle.st_model.specs.declared.code.Layout.{Layout}
+use Rattle.st_model.specs.declared.program.Item.{Item}
 use Rattle.st_model.specs.declared.program.Program.{Program}
 use Rattle.st_model.specs.declared.program.ProgramFunction.{ProgramFunction}
-use Rattle.st_model.specs.Layout.{row_at, rows_from, rows_of, function_address, function_size, functions_size, code_start}
+use Rattle.st_model.specs.Layout.{row_at, rows_from, rows_of, function_address, function_size, functions_size, code_start, item_size}
+use Rattle.st_step.specs.Frames.{address_in}
+use Rattle.st_items.specs.Code.{HasItem}
+use Rattle.st_items.proofs.Addresses.{item-within}
 use Rattle.st_items.specs.Rows.{row_behind, AreAscending}
 
 -- ---- rows that ascend
@@ -96,3 +100,9 @@ module _ (layout : Layout) where
   pub row_found : (p : Program) (f : ℕ) (function : ProgramFunction) (pc : ℕ) → slice_get p.functions f ≡ Some function → function_address layout p f ≤ pc → pc < function_address layout p f + 4 * function_size layout function → row_behind (rows_of layout p) pc ≡ Some (row_at layout (function_address layout p f) function)
   unfolding rows_of
   row_found p f function pc named least most = found_from code_start p.functions f function pc named least most
+
+  -- by any word of an item
+  pub row_of_item : (p : Program) (f : ℕ) (function : ProgramFunction) (i : ℕ) (item : Item) (k : ℕ) → HasItem p f function i item → k < item_size layout function item.kind → row_behind (rows_of layout p) (address_in layout p f function i + 4 * k) ≡ Some (row_at layout (function_address layout p f) function)
+  row_of_item p f function i item k has inside =
+      let within = item-within layout function function.items i item has.placed in
+      row_found p f function (address_in layout p f function i + 4 * k) has.named (omega arith) (omega (arith, within, inside))

@@ -1,6 +1,6 @@
 -- The registers of the machine, by their numbers: after a write (value-written_other, value-written_same), and after an epilogue has loaded
--- the saved ones (restored_value); they stay those of a machine on its stack (written_whole, restored_whole). The saved registers of a
--- function ascend, and a call keeps them (saved_rising); there are at most 11 (saved_few).
+-- the saved ones (restored_value). The saved registers of a function ascend, and a call keeps them (saved_rising); there are at most 11
+-- (saved_few).
 use Rattle.std.proofs.Common.{◌≡◌, ◌≢◌, ℕ, suc, ◌+◌, ◌<◌, ◌≤◌, Bool, true, false, ◌==◌, List, [], ◌∷◌, length, slice_set, slice_index, refl, ap, sym, ◌∙◌, arith, if◌then◌else◌}
 use Rattle.std.proofs.lemmas.List.{get_or-set_other}
 use Rattle.std.proofs.lemmas.Bool.{eqb-true, eqb-false, ne_eqb}

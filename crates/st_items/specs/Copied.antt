@@ -1,8 +1,10 @@
 -- The pure copy that stands behind a function's items in postprocessed code: from an activation that waits it leads to its caller, and changes no
 -- word. Read copy_address, IsAtCopy (a machine is sent through it) and Older (what it leads to: the cursor of the caller, by its place, its
--- base and the registers that a call keeps).
-use Rattle.std.specs.Prelude.{◌≡◌, ℕ, ◌+◌, ◌*◌, Bool, true, Some, None, slice_get}
+-- base and the registers that a call keeps). Its instructions add, load and return (is_reading).
+use Rattle.std.specs.Prelude.{◌≡◌, ℕ, ◌+◌, ◌*◌, Bool, true, false, Some, None, slice_get}
 use Rattle.st_base.specs.declared.reg.Reg.TheVariants as registers
+use Rattle.st_rv.specs.declared.ins.Op.{Op}
+use Rattle.st_rv.specs.declared.ins.Op.TheVariants as ops
 use Rattle.st_model.specs.declared.code.Layout.TheVariants.{Postprocessed}
 use Rattle.st_model.specs.declared.program.Program.{Program}
 use Rattle.st_model.specs.declared.program.ProgramFunction.{ProgramFunction}
@@ -37,3 +39,10 @@ pub record Older (ends : Ends) (b : ℕ) (function : ProgramFunction) (t u : Sit
   pub fp : register u.state registers.S0 ≡ t.word (caller_word b)
   pub value : (x : ℕ) → is_kept x ≡ true → value_in u.state x ≡ with_saved_values t.word b 0 (saved_of function) (value_in t.state) x
   pub whole : u.state.half ≡ None
+
+-- a copy has no other instructions than these
+abbrev pub is_reading : Op → Bool
+is_reading ops.Addi = true
+is_reading ops.Ld = true
+is_reading ops.Jalr = true
+is_reading _ = false

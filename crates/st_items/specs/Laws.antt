@@ -1,8 +1,8 @@
 -- Laws of laid out code that name no context, for either layout. Of code: CodesFit, CodeOfItems, ItemsLieLow, ItemsFollow and NoEntries (where items
 -- stand), ImagesTell and RowsFound (what an image has of them). Of jumps: CallsJump, GotosJump, EntriesJump, ForksJump, BranchesGo and
--- ThirdsEnd. Of ways: StretchesLead, and CopiesLead for pure copies. Of frames: FramesFound (what a prologue stores is found again), FramesAlone
--- (and nothing else is changed) and WritesHidden (callers see no write of the registers that a
--- function may write).
+-- ThirdsEnd. Of ways: StretchesLead, and CopiesLead and CopiesRead for pure copies. Of frames: FramesFound (what a prologue stores is found again), FramesAlone
+-- (and nothing else is changed) and WritesHidden (callers see no write of the registers that a function may
+-- write).
 use Rattle.std.specs.Prelude.{◌≡◌, ℕ, ◌+◌, ◌-◌, ◌*◌, ◌<◌, ◌≤◌, ◌==◌, Bool, true, false, List, length, replicate, Some, slice_get}
 use Rattle.st_base.specs.declared.image.Image.{Image}
 use Rattle.st_base.specs.declared.reg.Reg.{Reg}
@@ -10,6 +10,7 @@ use Rattle.st_base.specs.declared.reg.Reg.TheVariants as registers
 use Rattle.st_base.specs.declared.thread.Activation.{Activation}
 use Rattle.st_base.specs.declared.thread.ActivationKind.TheVariants.{Forked}
 use Rattle.st_rv.specs.declared.ins.Op.{Op}
+use Rattle.st_rv.specs.declared.ins.Ins.{Ins}
 use Rattle.st_model.specs.declared.code.Layout.{Layout}
 use Rattle.st_model.specs.declared.code.Layout.TheVariants.{Postprocessed}
 use Rattle.st_model.specs.declared.code.PostedIns.{PostedIns}
@@ -31,7 +32,7 @@ use Rattle.st_items.specs.Rows.{row_behind, AreAscending}
 use Rattle.st_items.specs.Ways.{LeadsBy, JumpsTo}
 use Rattle.st_items.specs.Body.{Ends}
 use Rattle.st_items.specs.Called.{IsThird}
-use Rattle.st_items.specs.Copied.{IsAtCopy, Older}
+use Rattle.st_items.specs.Copied.{copy_address, is_reading, IsAtCopy, Older}
 
 -- ---- code
 
@@ -111,6 +112,10 @@ StretchesLead =
 abbrev pub CopiesLead : Type 0
 CopiesLead =
     (p : Program) (d : Data) (held : ℕ → Bool) (ends : Ends) (bottom : ℕ) (t : Situation) (f : ℕ) (function : ProgramFunction) → IsAtCopy p held ends bottom t f function → (u : Situation) × RunsStretch d (code_at Postprocessed p) held (4 + length (saved_of function)) (4 + length (saved_of function)) t u × Older ends (register t.state registers.S0) function t u
+
+-- at each word of a pure copy stands an instruction that adds, loads or returns
+abbrev pub CopiesRead : Type 0
+CopiesRead = (p : Program) (f : ℕ) (function : ProgramFunction) (k : ℕ) → slice_get p.functions f ≡ Some function → k < 4 + length (saved_of function) → (i : Ins) × (code_at Postprocessed p (copy_address p f function + 4 * k) ≡ Some i) × (is_reading i.op ≡ true)
 
 -- ---- frames
 

@@ -1,6 +1,6 @@
 //! Laws of laid out code that name no context: each is the contract of a function with an empty body. Those over contexts are lemmas; the
 //! crate's head names them.
-ghost use Rattle.st_items.specs.Laws.{CodesFit, CodeOfItems, ItemsLieLow, ItemsFollow, NoEntries, ImagesTell, RowsFound, CallsJump, GotosJump, EntriesJump, ForksJump, BranchesGo, ThirdsEnd, StretchesLead, CopiesLead, FramesFound, FramesAlone, WritesHidden};
+ghost use Rattle.st_items.specs.Laws.{CodesFit, CodeOfItems, ItemsLieLow, ItemsFollow, NoEntries, ImagesTell, RowsFound, CallsJump, GotosJump, EntriesJump, ForksJump, BranchesGo, ThirdsEnd, StretchesLead, CopiesLead, CopiesRead, FramesFound, FramesAlone, WritesHidden};
 
 /// What is accepted and has its size has at most 196,608 words of code, in either layout.
 pub fn codes_fit()
@@ -75,6 +75,11 @@ pub fn stretches_lead()
 /// A pure copy leads from a frame to its caller: to its place, with its base and the registers that a call keeps; no word is changed.
 pub fn copies_lead()
     ensures { CopiesLead }
+{}
+
+/// At each word of a pure copy stands an instruction that adds, loads or returns.
+pub fn copies_read()
+    ensures { CopiesRead }
 {}
 
 /// What a prologue stores is found again.
