@@ -1,6 +1,7 @@
 -- Register files over calls: what a call passes and keeps is picked from the caller's file (picked_held), so it holds no frame register
 -- (frameless_saved, frameless_arguments) and nothing that a call takes (holds_saved). A file still stands for the machine's registers where
--- these differ in ra, sp and s0 alone (file_over); what a call keeps stands with its value in a0 (file_returned).
+-- these differ in ra, sp and s0 alone (file_over); what a call keeps holds none of them
+-- (frameless_kept), and stands with its value in a0 (file_returned).
 use Rattle.std.proofs.Common.{◌≡◌, ◌≢◌, ℕ, ◌<◌, ◌≤◌, Bool, true, false, cond, length, Option, Some, None, refl, ap, sym, ◌∙◌, subst, arith}
 use Rattle.std.specs.Prelude.{◌==◌, ◌||◌, ◌&&◌, not, nat_lt, nat_le, slice_index_or, slice_set}
 use Rattle.std.proofs.lemmas.List.{get_or_past, get_or-set_same, get_or-set_other, length-set}
@@ -85,6 +86,15 @@ not_kept x y kept other e = let same = ap is_kept e in cc
 kept_nothing : (kept : File) (x : ℕ) (o : Option Held) → HoldsKept kept → is_kept x ≡ false → slice_index_or kept x None ≡ o → o ≡ None
 kept_nothing kept x None holds other is = refl
 kept_nothing kept x (Some held) holds other is = absurd (let e = holds x held is in let never : ⊥ = cc in never)
+
+-- what a call keeps
+pub frameless_kept : (kept : File) → length kept ≡ 32 → HoldsKept kept → IsFrameless kept
+frameless_kept kept long holds = record {
+  long = long;
+  ra = kept_nothing kept 1 _ holds refl refl;
+  sp = kept_nothing kept 2 _ holds refl refl;
+  fp = kept_nothing kept 8 _ holds refl refl;
+}
 
 -- what a call keeps, with its value in a0
 pub frameless_returned : (kept : File) (held : Held) → length kept ≡ 32 → HoldsKept kept → IsFrameless (write_register kept registers.A0 held)

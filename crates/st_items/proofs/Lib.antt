@@ -21,6 +21,7 @@ pub mod Entering
 pub mod Leaving
 pub mod Linking
 pub mod Returning
+pub mod Ending
 pub mod Copying
 pub mod Tables
 pub mod Rows

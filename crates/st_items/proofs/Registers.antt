@@ -14,6 +14,7 @@ use Rattle.st_model.proofs.Places.{number_below}
 use Rattle.st_model.specs.declared.program.ProgramFunction.{ProgramFunction}
 use Rattle.st_model.specs.Accepted.{is_int, IsInt, IsHandle, MayWrite}
 use Rattle.st_model.specs.Effect.{File, is_handle, is_frame}
+use Rattle.st_model.specs.Flow.{between}
 use Rattle.st_model.specs.Layout.{saveable, saved_among, saved_of}
 use Rattle.st_step.specs.declared.state.State.{State as MachineState}
 use Rattle.st_step.specs.Moves.{is_stack, written}
@@ -49,6 +50,14 @@ handle_high _ is = absurd (let never : ⊥ = cc in never)
 pub body_apart : (r : Reg) → IsOfBody r → IsApart r
 body_apart r (inl is) = record { ra = other_number (reg_number r) 1 is refl; sp = other_number (reg_number r) 2 is refl; fp = other_number (reg_number r) 8 is refl; gp = other_number (reg_number r) 3 is refl }
 body_apart r (inr is) = let high = handle_high r is in record { ra = λ e. omega arith; sp = λ e. omega arith; fp = λ e. omega arith; gp = λ e. omega arith }
+
+-- those that a fork may name
+pub fork_handle : (r : Reg) → between 24 28 (reg_number r) ≡ true → IsHandle r
+fork_handle registers.S8 is = refl
+fork_handle registers.S9 is = refl
+fork_handle registers.S10 is = refl
+fork_handle registers.S11 is = refl
+fork_handle _ is = absurd (let never : ⊥ = cc in never)
 
 pub int_no_handle : (r : Reg) → IsInt r → is_handle r ≡ false
 int_no_handle registers.A6 is = absurd (let never : ⊥ = cc in never)

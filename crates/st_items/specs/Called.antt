@@ -1,7 +1,8 @@
 -- Calls, of functions and of the runtime's entries. Read Calling (what is older than a called activation: its caller, and what is older than that),
 -- IsBeneath (the called one's frame lies apart from its caller's), Enters and AtEntry (an entry that an item has called with its first word),
--- IsAtSecond (at the second jump of a fork, which calls its function) and IsThird (at the third one, which ends the child).
-use Rattle.std.specs.Prelude.{◌≡◌, ◌⊎◌, ℕ, ◌+◌, ◌%◌, ◌≤◌, None}
+-- IsAtSecond (at the second jump of a fork, which calls its function), IsThird (at the third one, which ends the child) and AtChildEnd (at the
+-- entry that it calls).
+use Rattle.std.specs.Prelude.{◌≡◌, ◌⊎◌, ℕ, ◌+◌, ◌%◌, ◌<◌, ◌≤◌, None}
 use Rattle.st_base.specs.declared.reg.Reg.{Reg}
 use Rattle.st_base.specs.declared.reg.Reg.TheVariants as registers
 use Rattle.st_base.specs.declared.thread.Activation.{Activation}
@@ -67,3 +68,13 @@ pub record IsAtSecond (layout : Layout) (p : Program) (names : Naming) (older : 
 pub record IsThird (layout : Layout) (p : Program) (pc : ℕ) : Type 0 where
   pub jumps : JumpsTo layout p pc registers.Ra fork_out
   pub behind : IsBehind layout p pc
+
+-- at the entry that ends a child, which the fork of an activation has called: the activation is behind its fork again, with the registers that it
+-- kept, and the child's value is in a0
+pub record AtChildEnd (layout : Layout) (p : Program) (names : Naming) (older : Context) (ends : Ends) (bottom : ℕ) (u : Situation) (a : Activation) (kept : File) (function : ProgramFunction) (value : ℕ) : Type 0 where
+  pub body : IsInBody p names older ends bottom u a kept function
+  pub begun : 0 < a.next
+  pub at : u.state.pc ≡ fork_out
+  pub back : register u.state registers.Ra ≡ address_in layout p a.function function a.next
+  pub value_is : register u.state registers.A0 ≡ value
+  pub whole : u.state.half ≡ None
