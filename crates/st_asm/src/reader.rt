@@ -116,8 +116,7 @@ fn read_texts(alloc: Global, texts: &[Vec<u8>]) -> Result<Unit, AsmError>
     let lines = lines_of(alloc, texts)?;
     let labels = definitions(alloc, &lines)?;
     let assembled = check_lines(alloc, &labels, &lines)?;
-    let unit = unit_in(alloc, assembled)?;
-    Ok(unit)
+    Ok(unit_in(alloc, assembled)?)
 }
 
 /// The unit of the texts of 1 to 64 files, in their order.

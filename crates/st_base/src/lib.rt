@@ -1,5 +1,5 @@
 //! Shared types: registers, names, places in files, paths and event keys, register files, activations and threads, the
-//! program as it is run, limits and answers. `key_cmp` is exactly the order of event keys.
+//! program as it is run, limits, answers and failures. `key_cmp` is exactly the order of event keys.
 //!
 //! `outside` has the traits of the world outside; their forms are `outside_memory`, with calls that are to fail,
 //! `outside_sure`, without such calls, and `outside_real`.
@@ -8,6 +8,7 @@
 pub mod answer;
 pub mod chain;
 pub mod entry;
+pub mod failure;
 mod fault_count;
 pub mod form;
 pub mod image;

@@ -6,8 +6,8 @@ use Rattle.std.specs.Str.{bytes_eq}
 use Rattle.st_base.specs.declared.reg.Reg.{Reg}
 use Rattle.st_line.specs.declared.fault.AsmKind.{AsmKind}
 use Rattle.st_line.specs.declared.fault.AsmKind.TheVariants.{BadOperand, ImmRange}
-use Rattle.st_line.specs.declared.fault.LineError.{LineError}
-use Rattle.st_line.specs.declared.fault.LineError.TheVariants as errors
+use Rattle.st_base.specs.declared.failure.Failure.{Failure}
+use Rattle.st_base.specs.declared.failure.Failure.TheVariants as errors
 use Rattle.st_line.specs.declared.integer.Base.{Base}
 use Rattle.st_line.specs.declared.integer.Base.TheVariants as bases
 use Rattle.st_line.specs.declared.lexeme.Lexeme.{Lexeme}
@@ -121,16 +121,16 @@ ReadsTwoCapped (Err k) read = read ≡ Err k
 
 -- ---- results that may want memory
 
-abbrev pub FailsBy : {Y : Type 0} → LineError → Result Y AsmKind → Type 0
+abbrev pub FailsBy : {Y : Type 0} → Failure AsmKind → Result Y AsmKind → Type 0
 FailsBy (errors.Fault k) read = read ≡ Err k
 FailsBy errors.OutOfMemory read = Unit {0}
 
 -- what a function returned is what reading gives, unless memory ran out
-abbrev pub Gives : {X : Type 0} → Result X LineError → Result X AsmKind → Type 0
+abbrev pub Gives : {X : Type 0} → Result X (Failure AsmKind) → Result X AsmKind → Type 0
 Gives (Ok x) read = read ≡ Ok x
 Gives (Err e) read = FailsBy e read
 
-abbrev pub GivesBy : {X Y : Type 0} → (X → Y) → Result X LineError → Result Y AsmKind → Type 0
+abbrev pub GivesBy : {X Y : Type 0} → (X → Y) → Result X (Failure AsmKind) → Result Y AsmKind → Type 0
 GivesBy view (Ok x) read = read ≡ Ok (view x)
 GivesBy view (Err e) read = FailsBy e read
 

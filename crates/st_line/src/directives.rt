@@ -113,8 +113,7 @@ fn string<'a>(alloc: Global, lexemes: &'a [Lexeme<'a>]) -> Result<Vec<u8>, LineE
     ensures { GivesBy (λ bytes. bytes.items) result (one_operand string_of (operands_of (lexes lexemes.now))) }
 {
     let operand = one(lexemes)?;
-    let bytes = string_in(alloc, operand)?.ok_or(AsmKind::BadOperand)?;
-    Ok(bytes)
+    Ok(string_in(alloc, operand)?.ok_or(AsmKind::BadOperand)?)
 }
 
 #[tactic(auto, unfolding(crate::specs::Statement::directive_statement))]

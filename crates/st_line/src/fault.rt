@@ -1,8 +1,8 @@
 //! Kinds of faults, with the number and the name by which they are printed.
 ghost use Rattle.std.specs.Prelude.{◌≡◌, ◌<◌};
 
+use st_base::failure::Failure;
 use st_base::line::Line;
-use std::alloc::{AllocError, AllocFailed};
 
 /// What is wrong with a line of assembly text. Where a line has several faults, the least kind counts.
 #[derive(Clone, Copy, PartialEq, Eq, Debug)]
@@ -32,44 +32,17 @@ pub struct AsmFault {
     pub kind: AsmKind,
 }
 
-/// Why a line has no statement.
-#[derive(Clone, Copy, PartialEq, Eq, Debug)]
-pub enum LineError {
-    /// The line's least fault of those that it has by itself.
-    Fault(AsmKind),
-    OutOfMemory,
-}
+/// Why a line has no statement: the line's least fault of those that it has by itself, or want of memory.
+pub type LineError = Failure<AsmKind>;
 
 impl From<AsmKind> for LineError {
     ghost use Rattle.std.specs.Prelude.{◌≡◌};
-    ghost use Rattle.st_line.specs.declared.fault.LineError.TheVariants.{Fault};
+    ghost use Rattle.st_base.specs.declared.failure.Failure.TheVariants.{Fault};
 
     ghost from_gives = { λ kind error. error ≡ Fault kind };
 
     fn from(kind: AsmKind) -> LineError {
-        LineError::Fault(kind)
-    }
-}
-
-impl From<AllocError> for LineError {
-    ghost use Rattle.std.specs.Prelude.{◌≡◌};
-    ghost use Rattle.st_line.specs.declared.fault.LineError.TheVariants.{OutOfMemory};
-
-    ghost from_gives = { λ _ error. error ≡ OutOfMemory };
-
-    fn from(_: AllocError) -> LineError {
-        LineError::OutOfMemory
-    }
-}
-
-impl<T: Drop> From<AllocFailed<T>> for LineError {
-    ghost use Rattle.std.specs.Prelude.{◌≡◌};
-    ghost use Rattle.st_line.specs.declared.fault.LineError.TheVariants.{OutOfMemory};
-
-    ghost from_gives = { λ _ error. error ≡ OutOfMemory };
-
-    fn from(_: AllocFailed<T>) -> LineError {
-        LineError::OutOfMemory
+        Failure::Fault(kind)
     }
 }
 

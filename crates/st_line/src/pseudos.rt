@@ -43,8 +43,7 @@ fn branch_from<'a>(alloc: Global, op: Op, lexemes: &'a [Lexeme<'a>]) -> Result<S
     ensures { Gives result (branch_of_one (λ s to. branch op s Reg.Zero to) (operands_of (lexes lexemes.now))) }
 {
     let (rs, to) = register_and_name(lexemes)?;
-    let ins = branch(alloc, op, rs, Reg::Zero, to)?;
-    Ok(ins)
+    Ok(branch(alloc, op, rs, Reg::Zero, to)?)
 }
 
 /// `name s,label` for `op zero,s,label`.
@@ -57,8 +56,7 @@ fn branch_against<'a>(
     ensures { Gives result (branch_of_one (λ s to. branch op Reg.Zero s to) (operands_of (lexes lexemes.now))) }
 {
     let (rs, to) = register_and_name(lexemes)?;
-    let ins = branch(alloc, op, Reg::Zero, rs, to)?;
-    Ok(ins)
+    Ok(branch(alloc, op, Reg::Zero, rs, to)?)
 }
 
 /// `name a,b,label` for `op b,a,label`.
@@ -71,8 +69,7 @@ fn branch_swapped<'a>(
     ensures { Gives result (branch_of_two (λ a b to. branch op b a to) (operands_of (lexes lexemes.now))) }
 {
     let (a, b, to) = two_registers_and_name(lexemes)?;
-    let ins = branch(alloc, op, b, a, to)?;
-    Ok(ins)
+    Ok(branch(alloc, op, b, a, to)?)
 }
 
 #[tactic(auto, unfolding(crate::specs::Statement::pseudo_statement))]

@@ -113,8 +113,7 @@ fn branch_row<'a>(alloc: Global, op: Op, lexemes: &'a [Lexeme<'a>]) -> Result<So
     ensures { Gives result (row_of_kind OpKind.Branch op (operands_of (lexes lexemes.now))) }
 {
     let (rs1, rs2, to) = two_registers_and_name(lexemes)?;
-    let ins = branch(alloc, op, rs1, rs2, to)?;
-    Ok(ins)
+    Ok(branch(alloc, op, rs1, rs2, to)?)
 }
 
 #[tactic(auto, unfolding(crate::specs::Statement::row_of_kind))]
@@ -172,8 +171,7 @@ fn jump_row<'a>(alloc: Global, op: Op, lexemes: &'a [Lexeme<'a>]) -> Result<Sour
         }
         _ => {
             let (rd, to) = register_and_memory(lexemes)?;
-            let ins = returned(rd, to)?;
-            Ok(ins)
+            Ok(returned(rd, to)?)
         }
     }
 }
