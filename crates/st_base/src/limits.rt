@@ -18,6 +18,17 @@ pub enum LimitKind {
     Turn,
 }
 
+/// The least stack of a worker, in bytes.
+pub const LEAST_STACK: u32 = 1024;
+/// The greatest stack of a worker, in bytes.
+pub const MOST_STACK: u32 = 1_048_576;
+/// The fewest threads and counters that a run may be limited to.
+pub const LEAST_CELLS: u32 = 16;
+/// The most threads and counters that a run may have.
+pub const MOST_CELLS: u32 = 65_536;
+/// The most steps that a worker may begin.
+pub const MOST_STEPS: u64 = 1 << 40;
+
 /// The limits that a run is given. Its values are always within their ranges.
 #[derive(Clone, Copy)]
 pub struct Limits {
@@ -44,7 +55,7 @@ impl Limits {
         ensures steps { result.steps ≡ 2 ^ 32 }
     {
         Limits {
-            stack: 1_048_576,
+            stack: MOST_STACK,
             cells: 16_384,
             steps: 1 << 32,
         }

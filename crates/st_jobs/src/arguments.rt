@@ -58,9 +58,10 @@ fn file_count(matches: &ArgMatches) -> usize
 fn limits_in(matches: &ArgMatches) -> Option<Limits>
     ensures { option_map limit_settings result ≡ settings_of limit_rows (found_values matches.now) }
 {
-    let stack = number(matches, "stack", STACK, Some(1_048_576))?;
-    let cells = number(matches, "cells", CELLS, Some(16_384))?;
-    let steps = number(matches, "steps", STEPS, Some(4_294_967_296))?;
+    let standard = Limits::standard();
+    let stack = number(matches, "stack", STACK, Some(u64::from(standard.stack)))?;
+    let cells = number(matches, "cells", CELLS, Some(u64::from(standard.cells)))?;
+    let steps = number(matches, "steps", STEPS, Some(standard.steps))?;
     Some(Limits {
         stack: stack as u32,
         cells: cells as u32,

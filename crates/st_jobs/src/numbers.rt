@@ -6,6 +6,7 @@ ghost use Rattle.st_jobs.specs.Values.{IsWithin, is_numeral, number_in, number_o
 ghost use Rattle.st_jobs.specs.ByClap.{found_values};
 
 use clap::ArgMatches;
+use st_base::limits::{LEAST_CELLS, LEAST_STACK, MOST_CELLS, MOST_STACK, MOST_STEPS};
 
 /// The numbers that an option takes: those from `least` to `most` that are multiples of `multiple_of`.
 #[derive(Clone, Copy)]
@@ -24,22 +25,22 @@ pub const WORKERS: NumberRange = NumberRange {
 
 /// `--stack`, in bytes.
 pub const STACK: NumberRange = NumberRange {
-    least: 1024,
-    most: 1_048_576,
+    least: LEAST_STACK as u64,
+    most: MOST_STACK as u64,
     multiple_of: 16,
 };
 
 /// `--cells`.
 pub const CELLS: NumberRange = NumberRange {
-    least: 16,
-    most: 65_536,
+    least: LEAST_CELLS as u64,
+    most: MOST_CELLS as u64,
     multiple_of: 1,
 };
 
 /// `--steps`.
 pub const STEPS: NumberRange = NumberRange {
     least: 1,
-    most: 1 << 40,
+    most: MOST_STEPS,
     multiple_of: 1,
 };
 

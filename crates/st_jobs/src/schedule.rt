@@ -66,14 +66,12 @@ fn schedule_of(alloc: Global, values: &[&str], workers: u32) -> Result<Vec<u8>, 
     ensures usage { (result ≡ Err WordsError.Usage) → schedule_of workers (map (λ s. s.now) values.now) ≡ None }
 {
     let Some((value, again)) = values.split_first() else {
-        let order = in_order(alloc, workers)?;
-        return Ok(order);
+        return Ok(in_order(alloc, workers)?);
     };
     if !again.is_empty() || !is_schedule(value.as_bytes(), workers) {
         return Err(WordsError::Usage);
     }
-    let turns = hex_values(alloc, value.as_bytes())?;
-    Ok(turns)
+    Ok(hex_values(alloc, value.as_bytes())?)
 }
 
 /// The schedule that the option gives.
