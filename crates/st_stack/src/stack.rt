@@ -11,12 +11,10 @@ ghost use Rattle.st_words.specs.Steps.{Look, return_place};
 
 use crate::list::FrameList;
 use st_base::chain::Frame;
+use st_base::map::STACKS_START;
 use st_words::board::{Board, NamesView};
 use std::alloc::{AllocError, Global};
 use std::marker::Model;
-
-/// Where the stacks begin: worker 0's low end.
-const STACKS: u64 = 0x8000_0000;
 
 /// The exported frames of the stack from `lo` up to `hi`. Contracts see them as a list, in any order, beside the stack's ends.
 #[derive(Drop)]
@@ -181,7 +179,7 @@ fn return_place(f: Frame) -> u32
     requires { (0x8000_0008 ≤ f.base) × (f.base ≤ 0x8000_0000 + 2 ^ 24) }
     ensures { result ≡ return_place f }
 {
-    ((f.base - STACKS) / 8 - 1) as u32
+    ((f.base - STACKS_START) / 8 - 1) as u32
 }
 
 /// The lesser of the limit and a frame's low end.

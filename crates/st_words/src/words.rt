@@ -11,6 +11,7 @@ use crate::zeroed::ZeroedWords;
 use st_base::chain::{Chain, Note, Waiting};
 use st_base::limits::Limits;
 use st_base::lists::Listed;
+use st_base::map::MOST_PRINTED;
 use std::alloc::{AllocError, Global};
 
 /// All words and slots of a board.
@@ -50,7 +51,7 @@ pub struct Words {
 fn out_count() -> usize
     ensures { result ≡ out_bytes }
 {
-    1_048_576
+    MOST_PRINTED
 }
 
 /// The root's chain, which hasn't begun.
