@@ -224,6 +224,65 @@ impl Held {
         let is_joined = self.count(cell) == joined;
         is_parked & is_joined
     }
+
+    /// Each number below 16 is drawn in its turn, and then none is left.
+    fn draws_all(&mut self) -> bool {
+        let mut is_each = true;
+        for number in 1..16 {
+            is_each &= self.draw() == Ok(number);
+        }
+        is_each & (self.draw() == Err(Full { cells: 16 }))
+    }
+
+    fn waits(&mut self) -> bool {
+        let is_parked = self.is_parked_once();
+        let is_filled = self.is_filled_once();
+        is_parked & is_filled
+    }
+
+    fn counts(&mut self) -> bool
+        requires { (view_at self.old.board.kept.views 0).hand ≡ [] }
+    {
+        match self.counter() {
+            Ok(cell) => self.is_counted(cell),
+            Err(_) => false,
+        }
+    }
+
+    fn joins(&mut self) -> bool
+        requires { (view_at self.old.board.kept.views 0).hand ≡ [] }
+    {
+        match self.counter() {
+            Ok(cell) => self.is_joined(cell),
+            Err(_) => false,
+        }
+    }
+
+    fn play(&mut self, scene: Scene) -> bool
+        requires { (view_at self.old.board.kept.views 0).hand ≡ [] }
+    {
+        match scene {
+            Scene::Draws => self.draws_all(),
+            Scene::Waits => self.waits(),
+            Scene::Counts => self.counts(),
+            Scene::Joins => self.joins(),
+        }
+    }
+}
+
+/// What is shown of a board.
+#[derive(Clone, Copy)]
+enum Scene {
+    Draws,
+    Waits,
+    Counts,
+    Joins,
+}
+
+/// Whether a board that is opened shows it.
+fn plays(alloc: Global, scene: Scene) -> Result<bool, AllocError> {
+    let mut held = Held::open(alloc, 7)?;
+    Ok(held.play(scene))
 }
 
 /// The chain of cell 2, whose thread waits until the counter in a cell has come to 3.
@@ -238,36 +297,21 @@ fn joining(cell: u32) -> Chain
 
 #[test]
 fn numbers_are_drawn_until_there_are_no_more(rt: HostRuntime) -> Result<(), Fail> {
-    let mut held = Held::open(rt.alloc(), 7)?;
-    for number in 1..16 {
-        assert!(rt; held.draw() == Ok(number));
-    }
-    assert!(rt; held.draw() == Err(Full { cells: 16 }));
+    assert!(rt; plays(rt.alloc(), Scene::Draws)?);
     Ok(())
 }
 
 #[test]
 fn a_future_is_waited_for_and_made_full(rt: HostRuntime) -> Result<(), Fail> {
-    let mut held = Held::open(rt.alloc(), 7)?;
-    let is_parked = held.is_parked_once();
-    let is_filled = held.is_filled_once();
-    assert!(rt; is_parked & is_filled);
+    assert!(rt; plays(rt.alloc(), Scene::Waits)?);
     Ok(())
 }
 
 #[test]
 fn counters_are_counted_up_and_waited_for(rt: HostRuntime) -> Result<(), Fail> {
-    let mut counts = Held::open(rt.alloc(), 7)?;
-    let mut joins = Held::open(rt.alloc(), 7)?;
-    let Ok(cell) = counts.counter() else {
-        return Err(Fail::new("no cell is left"));
-    };
-    let Ok(other) = joins.counter() else {
-        return Err(Fail::new("no cell is left"));
-    };
-    let is_counted = counts.is_counted(cell);
-    let is_joined = joins.is_joined(other);
-    assert!(rt; is_counted & is_joined);
+    for scene in [Scene::Counts, Scene::Joins] {
+        assert!(rt; plays(rt.alloc(), scene)?);
+    }
     Ok(())
 }
 
