@@ -93,31 +93,61 @@ impl Lone {
     }
 }
 
-#[test]
-fn frames_are_exported_once_and_taken_back_in_their_order(rt: HostRuntime) -> Result<(), Fail> {
-    let mut lone = Lone::open(rt.alloc())?;
-    let mut stack = PhysStack::open(rt.alloc(), LOW, HIGH)?;
+/// Both frames are exported, each once.
+fn exports_both(stack: &mut PhysStack) -> bool
+    requires none { stack.old.exported ≡ [] }
+    requires ends { (stack.old.lo ≡ 0x8000_0000) × (stack.old.hi ≡ 0x8001_0000) }
+    ensures ends { (stack.new.lo ≡ 0x8000_0000) × (stack.new.hi ≡ 0x8001_0000) }
+{
     let is_open = stack.limit() == HIGH;
-    lone.store(LOWER_RETURN, 0x30);
-    lone.store(UPPER_RETURN, 0x30);
     let is_first = stack.export(upper());
     let is_again = stack.export(upper());
     let is_second = stack.export(lower());
     let is_there = stack.is_exported(lower());
     let is_on = stack.is_on(lower());
+    let is_limited = stack.limit() == 0x8000_ffa0;
+    is_open & is_first & !is_again & is_second & is_there & is_on & is_limited
+}
+
+/// The lower frame is taken back once its return word is 0, and sp rises then.
+fn takes_lower_back(lone: &mut Lone, stack: &mut PhysStack) -> bool
+    requires { (stack.old.lo ≡ 0x8000_0000) × (stack.old.hi ≡ 0x8001_0000) }
+    ensures { (stack.new.lo ≡ 0x8000_0000) × (stack.new.hi ≡ 0x8001_0000) }
+{
     let sp = 0x8000_ffa0;
-    let is_limited = stack.limit() == sp;
-    assert!(rt; is_open & is_first & !is_again & is_second & is_there & is_on & is_limited);
-    let is_held = lone.shrink(&mut stack, sp, None) == Shrunk::Done { sp };
+    let is_held = lone.shrink(stack, sp, None) == Shrunk::Done { sp };
     lone.store(LOWER_RETURN, 0);
-    let is_back = lone.shrink(&mut stack, sp, None) == Shrunk::More;
-    let is_raised = lone.shrink(&mut stack, sp, None) == Shrunk::Done { sp: 0x8000_ffc0 };
-    let stays = stack.is_exported(upper());
-    assert!(rt; is_held & is_back & is_raised & stays);
+    let is_back = lone.shrink(stack, sp, None) == Shrunk::More;
+    let is_raised = lone.shrink(stack, sp, None) == Shrunk::Done { sp: 0x8000_ffc0 };
+    is_held & is_back & is_raised & stack.is_exported(upper())
+}
+
+/// So is the upper one; then sp rises to the stack's end, or to the worker's lowest frame.
+fn takes_upper_back(lone: &mut Lone, stack: &mut PhysStack) -> bool
+    requires { (stack.old.lo ≡ 0x8000_0000) × (stack.old.hi ≡ 0x8001_0000) }
+{
+    let sp = 0x8000_ffa0;
     lone.store(UPPER_RETURN, 0);
-    let is_back = lone.shrink(&mut stack, sp, None) == Shrunk::More;
-    let is_raised = lone.shrink(&mut stack, sp, None) == Shrunk::Done { sp: HIGH };
-    let is_lowered = lone.shrink(&mut stack, sp, Some(lower())) == Shrunk::Done { sp };
-    assert!(rt; is_back & is_raised & is_lowered);
+    let is_back = lone.shrink(stack, sp, None) == Shrunk::More;
+    let is_raised = lone.shrink(stack, sp, None) == Shrunk::Done { sp: HIGH };
+    let is_lowered = lone.shrink(stack, sp, Some(lower())) == Shrunk::Done { sp };
+    is_back & is_raised & is_lowered
+}
+
+/// Both frames are exported and taken back.
+fn come_and_go(alloc: Global) -> Result<bool, AllocError> {
+    let mut stack = PhysStack::open(alloc, LOW, HIGH)?;
+    let mut lone = Lone::open(alloc)?;
+    lone.store(LOWER_RETURN, 0x30);
+    lone.store(UPPER_RETURN, 0x30);
+    let exports = exports_both(&mut stack);
+    let lower = takes_lower_back(&mut lone, &mut stack);
+    let upper = takes_upper_back(&mut lone, &mut stack);
+    Ok(exports & lower & upper)
+}
+
+#[test]
+fn frames_are_exported_once_and_taken_back_in_their_order(rt: HostRuntime) -> Result<(), Fail> {
+    assert!(rt; come_and_go(rt.alloc())?);
     Ok(())
 }
