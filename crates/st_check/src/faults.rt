@@ -323,9 +323,6 @@ pub fn function_fault(
 {
     match shape_of(alloc, function)? {
         Shape::Faulty { line, kind } => Ok(with_fault(true, line, kind, best)),
-        Shape::Formed(shape) => {
-            let least = formed_fault(alloc, names, f, function, &shape, best)?;
-            Ok(least)
-        }
+        Shape::Formed(shape) => formed_fault(alloc, names, f, function, &shape, best),
     }
 }

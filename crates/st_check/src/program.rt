@@ -65,10 +65,7 @@ fn item_of_target(numbers: &Numbers, to: &Target) -> Result<u32, AllocError>
     ensures { (gs : List (ℕ × Group')) → TellsNumbers numbers.now gs → IfOk result (λ n. n ≡ item_of_target gs to.now) }
 {
     match to {
-        Target::Place { item, .. } => {
-            let number = small(number_at(numbers, *item as usize))?;
-            Ok(number)
-        }
+        Target::Place { item, .. } => small(number_at(numbers, *item as usize)),
         _ => Ok(0),
     }
 }
@@ -102,10 +99,7 @@ fn called(names: &Names<'_>, ins: &SourceIns) -> Result<u32, AllocError>
     ensures { (functions : List Function') → TellsNames names.now functions → IfOk result (λ f. f ≡ called functions ins.now) }
 {
     match ins {
-        SourceIns::Call { name } => {
-            let function = small(place_of(names, name.as_bytes()).unwrap_or(0))?;
-            Ok(function)
-        }
+        SourceIns::Call { name } => small(place_of(names, name.as_bytes()).unwrap_or(0)),
         _ => Ok(0),
     }
 }
@@ -114,10 +108,7 @@ fn called_in(names: &Names<'_>, group: Group<'_>) -> Result<u32, AllocError>
     ensures { (functions : List Function') (at : ℕ) (gs : List (ℕ × Group')) → TellsNames names.now functions → IfOk result (λ f. f ≡ call_behind functions ((at, group_view group.entry) ∷ gs)) }
 {
     match group {
-        Group::Single(line) => {
-            let function = called(names, &line.ins)?;
-            Ok(function)
-        }
+        Group::Single(line) => called(names, &line.ins),
         Group::Epilogue(_) => Ok(0),
     }
 }
@@ -166,10 +157,7 @@ fn line_kind(
             let to = item_of_target(numbers, to)?;
             Ok(ItemKind::Jump { to })
         }
-        SourceIns::Call { name } => {
-            let kind = call_kind(names, name.as_bytes())?;
-            Ok(kind)
-        }
+        SourceIns::Call { name } => call_kind(names, name.as_bytes()),
         SourceIns::Ret => Ok(ItemKind::Epilogue),
         SourceIns::Fork { handle } => {
             let function = call_behind(names, groups, behind)?;
@@ -270,23 +258,7 @@ fn bit_of(reg: Reg) -> u32
     ensures value { result ≡ 2 ^ saved_bit reg }
     ensures few { result ≤ 16384 }
 {
-    match reg {
-        Reg::S2 => 2,
-        Reg::S3 => 4,
-        Reg::S4 => 8,
-        Reg::S5 => 16,
-        Reg::S6 => 32,
-        Reg::S7 => 64,
-        Reg::S8 => 128,
-        Reg::S9 => 256,
-        Reg::S10 => 512,
-        Reg::S11 => 1024,
-        Reg::T3 => 2048,
-        Reg::T4 => 4096,
-        Reg::T5 => 8192,
-        Reg::T6 => 16384,
-        _ => 1,
-    }
+    1 << reg.number().saturating_sub(17)
 }
 
 /// The saved registers as bits: bit i - 1 stands for s_i.
@@ -344,10 +316,7 @@ fn program_function(
             slots: function.slots,
             items: Listed::new(alloc),
         }),
-        Shape::Formed(shape) => {
-            let function = formed_function(alloc, names, function, &shape)?;
-            Ok(function)
-        }
+        Shape::Formed(shape) => formed_function(alloc, names, function, &shape),
     }
 }
 

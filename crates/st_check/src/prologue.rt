@@ -10,6 +10,7 @@ use crate::instruction::{Test, first_of, passes};
 use st_asm::{SourceIns, SourceLine};
 use st_base::line::Line;
 use st_base::reg::Reg;
+use st_model::code::SAVEABLE;
 use st_rv::ins::Ins;
 use std::alloc::{AllocError, Global};
 
@@ -22,21 +23,6 @@ pub enum Opening<'u> {
     /// behind its lines.
     Opened { first: &'u Ins, saved: Vec<Reg> },
 }
-
-/// The registers that a prologue may save, in their order.
-const SAVED: [Reg; 11] = [
-    Reg::S1,
-    Reg::S2,
-    Reg::S3,
-    Reg::S4,
-    Reg::S5,
-    Reg::S6,
-    Reg::S7,
-    Reg::S8,
-    Reg::S9,
-    Reg::S10,
-    Reg::S11,
-];
 
 /// Among these registers, the one that the line saves as the k-th, and those behind it.
 fn saved_by<'s>(first: &Ins, k: usize, left: &'s [Reg], ins: &SourceIns) -> Option<(Reg, &'s [Reg])>
@@ -87,7 +73,7 @@ fn open_saved<'u>(
     ensures few { IfOk result SavesFew }
 {
     let mut saved = Vec::new(alloc);
-    let mut left: &[Reg] = &SAVED;
+    let mut left: &[Reg] = &SAVEABLE;
     for at in 3..items.len() {
         let line = &items[at];
         if passes(

@@ -1,14 +1,13 @@
 //! Classes of registers, and which of them the instructions of a body may have.
 ghost use Rattle.std.specs.Prelude.{◌≡◌, not};
-ghost use Rattle.st_model.specs.Effect.{is_handle, is_frame, is_move};
 ghost use Rattle.st_check.specs.Faults.{is_integer, is_slot_register, is_in, is_saved, are_integers, is_handle_move, load_keeps, store_keeps, plain_keeps, keeps_classes, plain_writes, written, may_write, is_fork_register};
 ghost use Rattle.st_check.specs.Shape.{Formed as Formed'};
 
 use crate::instruction::is_same;
 use st_asm::SourceIns;
 use st_base::reg::Reg;
-use st_rv::ins::{Ins, Op, OpKind};
-use st_rv::results::word_of;
+use st_model::plain::{is_frame, is_handle, is_move};
+use st_rv::ins::{Ins, OpKind};
 
 /// Whether a register is `zero` or holds integers.
 pub fn is_integer(reg: Reg) -> bool
@@ -23,23 +22,6 @@ pub fn is_integer(reg: Reg) -> bool
         || (28 <= x && x < 31)
 }
 
-/// Whether a register holds handles.
-pub fn is_handle(reg: Reg) -> bool
-    ensures { result ≡ is_handle reg }
-{
-    matches!(
-        reg,
-        Reg::A6 | Reg::A7 | Reg::S8 | Reg::S9 | Reg::S10 | Reg::S11
-    )
-}
-
-/// Whether an access with this base is one of the frame's slots.
-pub fn is_frame(reg: Reg) -> bool
-    ensures { result ≡ is_frame reg }
-{
-    matches!(reg, Reg::S0)
-}
-
 fn is_slot_register(reg: Reg) -> bool
     ensures { result ≡ is_slot_register reg }
 {
@@ -50,15 +32,6 @@ fn are_integers(r: Reg, s: Reg) -> bool
     ensures { result ≡ are_integers r s }
 {
     is_integer(r) && is_integer(s)
-}
-
-fn is_move(op: Op, offset: i64) -> bool
-    ensures { result ≡ is_move op offset }
-{
-    match op {
-        Op::Addi => word_of(offset) == 0,
-        _ => false,
-    }
 }
 
 fn is_handle_move(i: Ins) -> bool

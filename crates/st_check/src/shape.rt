@@ -110,10 +110,7 @@ fn shape_in<'u>(alloc: Global, function: &'u Function) -> Result<Shape<'u>, Allo
             line,
             kind: FormKind::Prologue,
         }),
-        Opening::Opened { first, saved } => {
-            let shape = shape_behind(alloc, function, first, saved)?;
-            Ok(shape)
-        }
+        Opening::Opened { first, saved } => shape_behind(alloc, function, first, saved),
     }
 }
 

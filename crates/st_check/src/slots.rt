@@ -4,10 +4,11 @@ ghost use Rattle.st_model.specs.Memory.{slot_place};
 ghost use Rattle.st_check.specs.Faults.{slots_end, is_aligned, is_in_slots, is_slot, slot_fault, line_slot_fault};
 ghost use Rattle.st_check.specs.Views.{formed_view};
 
-use crate::registers::{is_frame, is_handle, is_integer};
+use crate::registers::is_integer;
 use crate::shape::Formed;
 use st_asm::SourceIns;
 use st_base::reg::Reg;
+use st_model::plain::{is_frame, is_handle};
 use st_rv::ins::{Ins, OpKind};
 use st_rv::results::{access_size, word_of};
 

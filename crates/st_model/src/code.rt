@@ -1,8 +1,30 @@
 //! Code that is laid out but not yet encoded: what the postprocessor makes of a program.
+ghost use Rattle.std.specs.Prelude.{◌≡◌};
+ghost use Rattle.st_model.specs.Layout.{saveable};
 
 use st_base::line::Line;
 use st_base::reg::Reg;
 use st_rv::ins::{Ins, Op};
+
+/// The registers that a function may save, in the order of their bits: s1 to s11.
+pub const SAVEABLE: [Reg; 11] = [
+    Reg::S1,
+    Reg::S2,
+    Reg::S3,
+    Reg::S4,
+    Reg::S5,
+    Reg::S6,
+    Reg::S7,
+    Reg::S8,
+    Reg::S9,
+    Reg::S10,
+    Reg::S11,
+];
+
+/// The list has the registers of the layout.
+pub fn saveable_in_order()
+    ensures { SAVEABLE ≡ saveable }
+{}
 
 /// How a program's code is laid out.
 #[derive(Clone, Copy, PartialEq, Eq, Debug)]

@@ -33,13 +33,10 @@ fn compute(i: Ins, top: Activation, registers: Registers) -> Effect
 }
 
 /// Whether the instruction is `mv`, which alone moves a name.
-fn is_move(op: Op, offset: i64) -> bool
+pub fn is_move(op: Op, offset: i64) -> bool
     ensures { result ≡ is_move op offset }
 {
-    match op {
-        Op::Addi => word_of(offset) == 0,
-        _ => false,
-    }
+    op == Op::Addi && word_of(offset) == 0
 }
 
 /// A result of a register and an immediate, or `mv` of a name.
@@ -80,7 +77,7 @@ fn upper(i: Ins, top: Activation, registers: Registers) -> Effect
 }
 
 /// Whether the register holds handles.
-fn is_handle(reg: Reg) -> bool
+pub fn is_handle(reg: Reg) -> bool
     ensures { result ≡ is_handle reg }
 {
     matches!(
@@ -93,7 +90,7 @@ fn is_handle(reg: Reg) -> bool
 pub fn is_frame(reg: Reg) -> bool
     ensures { result ≡ is_frame reg }
 {
-    matches!(reg, Reg::S0)
+    reg == Reg::S0
 }
 
 /// The place of a slot access, counted from the frame's low end.
