@@ -89,6 +89,7 @@ module _ (names names' : Naming) (grows : Grows names names') where
       handles = entered.handles;
       below = widens top.kind top.kept t.word (value_in t.state) (register t.state registers.S0) (register t.state registers.Ra) entered.below;
       at = entered.at;
+      whole = entered.whole;
     }
 
 -- what is older said otherwise, where it stands

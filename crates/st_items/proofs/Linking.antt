@@ -2,7 +2,7 @@
 -- function, where the new activation stands before its prologue (call_enters); a fork's second jump does so likewise (fork_enters), and its
 -- third leads to the entry that ends the child (third_jump); and an item that calls an entry leads there (entry_leads), and from there on
 -- (entry_back, fork_back).
-use Rattle.std.proofs.Common.{◌≡◌, ◌≢◌, ℕ, ◌+◌, ◌-◌, ◌^◌, ◌<◌, Bool, Some, slice_get, refl, ap, sym, ◌∙◌, subst, arith}
+use Rattle.std.proofs.Common.{◌≡◌, ◌≢◌, ℕ, ◌+◌, ◌-◌, ◌^◌, ◌<◌, Bool, Some, None, slice_get, refl, ap, sym, ◌∙◌, subst, arith}
 use Rattle.st_base.specs.declared.reg.Reg.{Reg}
 use Rattle.st_base.specs.declared.reg.Reg.TheVariants as registers
 use Rattle.st_base.specs.declared.registers.Pick.TheVariants.{Saved, Arguments}
@@ -101,8 +101,8 @@ Entering layout p names older ends bottom u top file function kind g callee =
 
 -- by the caller's body, over the machine at the first word of the function
 pub enters_by : (layout : Layout) (p : Program) (names : Naming) (older : Context) (ends : Ends) (bottom : ℕ) (u : Situation) (top : Activation) (file : File) (function : ProgramFunction) (kind : ActivationKind) (g : ℕ) (callee : ProgramFunction) → IsAccepted p → IsSized layout p → slice_get p.functions g ≡ Some callee
-    → IsInBody p names older ends bottom u top file function → ComesBack layout p kind (advanced top) function (register u.state registers.Ra) → u.state.pc ≡ function_address layout p g → Entering layout p names older ends bottom u top file function kind g callee
-enters_by layout p names older ends bottom u top file function kind g callee accepted size callee_is body back at =
+    → IsInBody p names older ends bottom u top file function → ComesBack layout p kind (advanced top) function (register u.state registers.Ra) → u.state.pc ≡ function_address layout p g → u.state.half ≡ None → Entering layout p names older ends bottom u top file function kind g callee
+enters_by layout p names older ends bottom u top file function kind g callee accepted size callee_is body back at whole =
     let (first, placed, is) = (formed_of p g callee accepted callee_is).begins in
     let slots = body.framed.slots in
     let caller : IsCaller layout p names u.word (value_in u.state) bottom (register u.state registers.S0) (register u.state registers.Ra) kind (picked Saved file) (advanced top) function = record {
@@ -129,6 +129,7 @@ enters_by layout p names older ends bottom u top file function kind g callee acc
         handles = refl;
         below = (caller, body.framed.below);
         at = at ∙ sym (first_address layout p g callee);
+        whole = whole;
       },
     )
 
@@ -148,7 +149,7 @@ call_enters layout p d held names older ends bottom t top file function item g c
       u,
       jump_leads layout p d held t target jumps,
       refl,
-      enters_by layout p names older ends bottom u top file function Called g callee line.accepted line.size callee_is (body_linked p names older ends bottom t target top file function (omega arith) line.sees line.body) back refl,
+      enters_by layout p names older ends bottom u top file function Called g callee line.accepted line.size callee_is (body_linked p names older ends bottom t target top file function (omega arith) line.sees line.body) back refl refl,
     )
 
 -- ---- an entry of the runtime
@@ -244,7 +245,7 @@ fork_enters layout p d held names older ends bottom t top file function item g h
       jump_makes layout p d held t target jumps,
       refl,
       enters_by layout p names older ends bottom u top file function Forked g callee second.accepted second.size callee_is (body_linked p names older ends bottom t target top file function (omega arith) second.sees second.body)
-          (back, (item, placed, subst (λ (k : ItemKind). IsFork k) (sym second.kind) tt)) refl,
+          (back, (item, placed, subst (λ (k : ItemKind). IsFork k) (sym second.kind) tt)) refl refl,
     )
 
 fork_is : (kind : ItemKind) → IsFork kind → (g : ℕ) × (handle : Reg) × (kind ≡ items.Fork g handle)

@@ -2,7 +2,7 @@
 -- IsBeneath (the called one's frame lies apart from its caller's), Enters and AtEntry (an entry that an item has called with its first word),
 -- IsAtSecond (at the second jump of a fork, which calls its function), IsThird (at the third one, which ends the child) and AtChildEnd (at the
 -- entry that it calls).
-use Rattle.std.specs.Prelude.{◌≡◌, ◌⊎◌, ℕ, ◌+◌, ◌%◌, ◌<◌, ◌≤◌, None}
+use Rattle.std.specs.Prelude.{◌≡◌, ◌⊎◌, ℕ, ◌+◌, ◌<◌, ◌≤◌, None}
 use Rattle.st_base.specs.declared.reg.Reg.{Reg}
 use Rattle.st_base.specs.declared.reg.Reg.TheVariants as registers
 use Rattle.st_base.specs.declared.thread.Activation.{Activation}
@@ -32,7 +32,6 @@ Calling layout p names older low function a kind kept word value fp ret =
 -- a frame from bottom to base is apart from its caller's, which lies from `low` on, and what is older sees no change in it
 pub record IsBeneath (older : Context) (low : ℕ) (function : ProgramFunction) (bottom base : ℕ) : Type 0 where
   pub above : 0x8000_0000 ≤ low
-  pub multiple : low % 16 ≡ 0
   pub apart : (base ≤ low) ⊎ (low + function.frame_bytes ≤ bottom)
   pub sees : SeesOutside older bottom base
 

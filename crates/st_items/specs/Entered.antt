@@ -30,6 +30,7 @@ pub record IsEntered (layout : Layout) (p : Program) (names : Naming) (older : C
   pub handles : top.handles ≡ replicate function.slots None
   pub below : older top.kind top.kept t.word (value_in t.state) (register t.state registers.S0) (register t.state registers.Ra)
   pub at : t.state.pc ≡ address_in layout p top.function function top.next
+  pub whole : t.state.half ≡ None
 
 pub record IsAtPrologue (layout : Layout) (p : Program) (held : ℕ → Bool) (names : Naming) (older : Context) (ends : Ends) (t : Situation) (top : Activation) (file : File) (function : ProgramFunction) (item : Item) : Type 0 where
   pub entered : IsEntered layout p names older ends t top file function item
