@@ -31,7 +31,7 @@ use Rattle.st_step.specs.Moves.{Stops, move_of, register}
 use Rattle.st_step.specs.Runs.{Situation, moved}
 use Rattle.st_plain.specs.declared.run.PlainRun.{PlainRun}
 use Rattle.st_plain.specs.declared.stop.Ending.TheVariants as endings
-use Rattle.st_plain.specs.Code.{code_at, word_index, HasItem, instructions_of}
+use Rattle.st_plain.specs.Code.{begins_of, code_at, word_index, HasItem, instructions_of}
 use Rattle.std.proofs.lemmas.Bool.{le-ltb, lt-ltb}
 use Rattle.st_model.specs.declared.code.Layout.TheVariants.{Unchanged}
 use Rattle.st_model.specs.Layout.{code_of, code_start, function_words, functions_size, program_words, words_of_all, HasSize}
@@ -72,7 +72,7 @@ abbrev pub moved_run : PlainRun → Machine → PlainBoard → PlainRun
 moved_run r machine board = record r { machine = machine; board = board }
 
 tables_stay : (p : Program) (image : Image) (limits : Limits) (r : PlainRun) (machine : Machine) (board : PlainBoard) → HasTables p image limits r → length board.words.stack ≡ length r.board.words.stack → HasTables p image limits (moved_run r machine board)
-tables_stay p image limits r machine board tables long = record { is_plain = tables.is_plain; instructions = tables.instructions; handles = tables.handles; most = tables.most; long = long ∙ tables.long }
+tables_stay p image limits r machine board tables long = record { is_plain = tables.is_plain; instructions = tables.instructions; begins = tables.begins; handles = tables.handles; most = tables.most; long = long ∙ tables.long }
 
 -- what the cells, notes and bytes stand for, where the item needs nothing of the runtime
 kept_alone : (p : Program) (d : Data) (limits : Limits) (r : PlainRun) (names : List Held) (v : Situation) (drawn : ℕ) (s : State) → IsKept p limits names r.threads.cells.items.items r.threads.notes.items.items r.threads.out.items.items s
@@ -304,6 +304,7 @@ entry_turns p image d limits drawn r new s left under many board code most goes 
     let tables : HasTables p image limits new = record {
       is_plain = under.tables.is_plain;
       instructions = ap (λ x. instructions_of x.instructions.items) code ∙ under.tables.instructions;
+      begins = ap (λ x. begins_of x.instructions.items) code ∙ under.tables.begins;
       handles = ap (λ x. x.handles.items) code ∙ under.tables.handles;
       most = most ∙ under.tables.most;
       long = ap (λ x. length x.words.stack) board ∙ under.tables.long;
@@ -365,15 +366,15 @@ line_inside image d r high amid =
     let codes = ap length tables.instructions in
     omega (arith, inside, lines, codes))
 
-begins-length : (p : Program) (image : Image) → IsPlainImage p image → length image.begins ≡ length (code_of Unchanged p)
+pub begins_length : (p : Program) (image : Image) → IsPlainImage p image → length image.begins ≡ length (code_of Unchanged p)
 unfolding program_words
-begins-length p image pi = ap length pi.is_image.begins ∙ length-map (program_words Unchanged p) (λ w. w.begins) ∙ all-length p.functions ∙ sym (code-length p)
+begins_length p image pi = ap length pi.is_image.begins ∙ length-map (program_words Unchanged p) (λ w. w.begins) ∙ all-length p.functions ∙ sym (code-length p)
 
 pub beginning_inside : (p : Program) (image : Image) (d : Data) (limits : Limits) (drawn : ℕ) (r : PlainRun) (s : State) (left : ℕ) → 0x10000 ≤ r.machine.pc → IsUnderWay p image d limits drawn r s left → word_index r.machine.pc < length image.begins
 beginning_inside p image d limits drawn r s left high under =
     let there = is_coded p image d limits drawn r s left high under in
     let inside = slice_get_within (instructions_of r.code.instructions.items) (word_index r.machine.pc) there.0 there.1 in
-    let begins = begins-length p image under.tables.is_plain in
+    let begins = begins_length p image under.tables.is_plain in
     let codes = ap length under.tables.instructions in
     omega (arith, inside, begins, codes)
 

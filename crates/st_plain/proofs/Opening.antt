@@ -36,7 +36,7 @@ use Rattle.st_plain.specs.declared.cells.Cell.TheVariants.{Future as FutureCell}
 use Rattle.st_plain.specs.declared.cells.Note.{Note}
 use Rattle.st_plain.specs.declared.run.PlainRun.{PlainRun}
 use Rattle.st_plain.specs.Answer.{IsPlainImage}
-use Rattle.st_plain.specs.Code.{handles_of, instructions_of}
+use Rattle.st_plain.specs.Code.{begins_of, handles_of, instructions_of}
 use Rattle.st_step.specs.Frames.{value_in}
 use Rattle.st_plain.specs.Frames.{HasFile, IsHeldAs, end_entry}
 use Rattle.st_plain.specs.Running.{HasBoard, IsDefinedFrom, IsKept, IsReady}
@@ -178,11 +178,11 @@ kept_opened p limits cells notes out s rest are note none least handles = record
 
 pub opened_ready : (p : Program) (image : Image) (d : Data) (limits sizes : Limits) (r : PlainRun) (s : State) → sizes.stack ≡ limits.stack → IsPlainImage p image → start p d ≡ Some s → IsDefinedFrom p d s → limits.stack ≤ 1048576 → 1 ≤ limits.cells → length d.input < 2 ^ 64
     → r.machine ≡ opened (stack_start + limits.stack) (length d.input) image.main_at → r.board.words ≡ first_words sizes 1 → r.board.kept.views ≡ first_views sizes 1
-    → instructions_of r.code.instructions.items ≡ code_of Unchanged p → r.code.handles.items ≡ handles_of image.forks (replicate (length image.words) registers.Zero)
+    → instructions_of r.code.instructions.items ≡ code_of Unchanged p → begins_of r.code.instructions.items ≡ image.begins → r.code.handles.items ≡ handles_of image.forks (replicate (length image.words) registers.Zero)
     → r.threads.cells.most ≡ limits.cells → r.threads.cells.items.items ≡ FutureCell None ∷ [] → r.threads.notes.items.items ≡ record { cell = 0; forks = 0; counters = 0; handle = registers.Zero } ∷ [] → r.threads.out.items.items ≡ []
     → IsReady p image d limits r s
-opened_ready p image d limits sizes r s same pi starts defined few least less machine words views instructions handles most cells notes out = record {
-  tables = record { is_plain = pi; instructions = instructions; handles = handles; most = most; long = long_opened sizes r.board.words words ∙ ap (λ (n : ℕ). n / 8) same };
+opened_ready p image d limits sizes r s same pi starts defined few least less machine words views instructions begins handles most cells notes out = record {
+  tables = record { is_plain = pi; instructions = instructions; begins = begins; handles = handles; most = most; long = long_opened sizes r.board.words words ∙ ap (λ (n : ℕ). n / 8) same };
   at = record {
     names = Future [] ∷ [];
     kept = kept_opened p limits r.threads.cells.items.items r.threads.notes.items.items r.threads.out.items.items s (started_gives p (length d.input) (slice_get p.functions p.main) s starts) cells notes out least (handles_opened p (length d.input) (slice_get p.functions p.main) s starts);

@@ -4,6 +4,7 @@
 -- Going (never_going).
 use Rattle.std.proofs.Common.{◌≡◌, ◌≢◌, ◌⊎◌, inl, inr, ℕ, zero, suc, ◌+◌, ◌*◌, ◌-◌, ◌<◌, ◌≤◌, true, List, length, reverse, Option, Some, None, slice_get, refl, ap, ap₂, sym, ◌∙◌, subst, arith}
 use Rattle.std.proofs.lemmas.Bool.{le-ltb}
+use Rattle.std.proofs.lemmas.List.{length-map}
 use Rattle.st_base.specs.declared.image.Image.{Image}
 use Rattle.st_base.specs.declared.limits.LimitKind.TheVariants.{Step}
 use Rattle.st_base.specs.declared.limits.LimitKind.{LimitKind}
@@ -29,7 +30,7 @@ use Rattle.st_plain.specs.declared.whole.PlainEnd.TheVariants.{Ended, Limit}
 use Rattle.st_plain.specs.declared.whole.PlainEnd.{PlainEnd}
 use Rattle.st_plain.specs.Answer.{IsPlainImage, answer_of, bounds_of}
 use Rattle.st_plain.specs.Endings.{end_by}
-use Rattle.st_plain.specs.Running.{EndsBy, IsDefinedFrom, IsReady, IsUnderWay, TurnLeads}
+use Rattle.st_plain.specs.Running.{EndsBy, HasTables, IsDefinedFrom, IsReady, IsUnderWay, TurnLeads}
 use Rattle.std.proofs.lemmas.Option.{slice_get_within}
 use Rattle.st_plain.specs.Code.{word_index}
 use Rattle.st_plain.proofs.Addresses.{place_bounds}
@@ -143,6 +144,19 @@ at_entry p image d limits r left made low (inr x) = x.0
 pub begins_inside : (p : Program) (image : Image) (d : Data) (limits : Limits) (r : PlainRun) (left made : ℕ) → 0x10000 ≤ r.machine.pc → Stage p image d limits r left made → word_index r.machine.pc < length image.begins
 begins_inside p image d limits r left made high (inl at) = slice_get_within image.begins (word_index r.machine.pc) true (begins_ready p image d limits r at.0.s at.0.ready)
 begins_inside p image d limits r left made high (inr x) = beginning_inside p image d limits x.0.drawn r x.0.s x.0.turns high x.0.under
+
+run_tables : (p : Program) (image : Image) (d : Data) (limits : Limits) (r : PlainRun) (left made : ℕ) → Stage p image d limits r left made → HasTables p image limits r
+run_tables p image d limits r left made (inl at) = at.0.ready.tables
+run_tables p image d limits r left made (inr x) = x.0.under.tables
+
+-- so has that of the instructions
+pub rows_inside : (p : Program) (image : Image) (d : Data) (limits : Limits) (r : PlainRun) (left made : ℕ) → 0x10000 ≤ r.machine.pc → Stage p image d limits r left made → word_index r.machine.pc < length r.code.instructions.items
+rows_inside p image d limits r left made high stage =
+    let inside = begins_inside p image d limits r left made high stage in
+    let tables = run_tables p image d limits r left made stage in
+    let same = ap length tables.begins in
+    let long = length-map r.code.instructions.items (λ t. t.begins) in
+    omega (arith, inside, same, long)
 
 some_left : (turns : ℕ) → (turns ≡ 0 → ⊥) → 1 ≤ turns
 some_left zero some = absurd (some refl)

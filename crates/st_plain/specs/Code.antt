@@ -1,6 +1,6 @@
 -- The unchanged code of a program at its addresses, and what a run keeps of an image. Read code_at (the instruction at an address),
 -- item_address (where an item begins) and handles_of (the handle registers of forks, by words).
-use Rattle.std.specs.Prelude.{◌≡◌, ℕ, ◌-◌, ◌/◌, ◌<◌, ◌≤◌, nat_lt, List, [], ◌∷◌, Option, Some, None, slice_get, slice_set, map, if◌then◌else◌}
+use Rattle.std.specs.Prelude.{◌≡◌, ℕ, ◌-◌, ◌/◌, ◌<◌, ◌≤◌, nat_lt, Bool, List, [], ◌∷◌, Option, Some, None, slice_get, slice_set, map, if◌then◌else◌}
 use Rattle.st_base.specs.declared.reg.Reg.{Reg}
 use Rattle.st_base.specs.declared.image.ForkRow.{ForkRow}
 use Rattle.st_rv.specs.declared.ins.Ins.{Ins}
@@ -19,6 +19,10 @@ word_index address = (address - code_start) / 4
 -- the instructions of a table
 abbrev pub instructions_of : List Decoded → List Ins
 instructions_of table = map (λ s. s.ins) table
+
+-- and of each whether an item begins with it
+abbrev pub begins_of : List Decoded → List Bool
+begins_of table = map (λ s. s.begins) table
 
 -- the instruction of the word at an address
 abbrev pub code_at : Program → ℕ → Option Ins

@@ -32,7 +32,7 @@ use Rattle.st_plain.specs.declared.stop.Ending.{Ending}
 use Rattle.st_plain.specs.declared.stop.Ending.TheVariants as endings
 use Rattle.st_plain.specs.declared.whole.PlainEnd.TheVariants as PlainEnds
 use Rattle.st_plain.specs.Answer.{IsPlainImage, end_of}
-use Rattle.st_plain.specs.Code.{code_at, item_address, handles_of, instructions_of, HasItem}
+use Rattle.st_plain.specs.Code.{begins_of, code_at, item_address, handles_of, instructions_of, HasItem}
 use Rattle.st_plain.specs.Standing.{on_stack, situation, Stands, AtCall, AtEnd}
 use Rattle.st_plain.specs.Endings.{end_by}
 use Rattle.st_plain.specs.Threads.{NamesStand, NotesStand, HandlesStand}
@@ -122,6 +122,7 @@ pub record GoesOn (p : Program) (d : Data) (limits : Limits) (drawn : ℕ) (r : 
 pub record HasTables (p : Program) (image : Image) (limits : Limits) (r : PlainRun) : Type 0 where
   pub is_plain : IsPlainImage p image
   pub instructions : instructions_of r.code.instructions.items ≡ code_of Unchanged p
+  pub begins : begins_of r.code.instructions.items ≡ image.begins
   pub handles : r.code.handles.items ≡ handles_of image.forks (replicate (length image.words) registers.Zero)
   pub most : r.threads.cells.most ≡ limits.cells
   pub long : length r.board.words.stack ≡ limits.stack / 8

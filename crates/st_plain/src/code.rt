@@ -7,16 +7,14 @@ ghost use Rattle.st_model.specs.declared.program.Program.{Program};
 ghost use Rattle.st_model.specs.declared.code.Layout.TheVariants.{Unchanged};
 ghost use Rattle.st_model.specs.Layout.{AreWords, code_of};
 ghost use Rattle.st_plain.specs.Answer.{HasProgram, IsPlainImage};
-ghost use Rattle.st_plain.specs.Code.{AreInCode, handles_of, instructions_of, word_index};
+ghost use Rattle.st_plain.specs.Code.{AreInCode, begins_of, handles_of, instructions_of, word_index};
 
 use st_base::image::{ForkRow, Image};
+use st_base::map::CODE_START;
 use st_base::reg::Reg;
 use st_rv::code::decode;
 use st_step::Decoded;
 use std::alloc::{AllocError, Global};
-
-/// Where the code begins.
-const CODE_START: u32 = 0x1_0000;
 
 /// The word of an address, counted from the first.
 pub(crate) fn word_index(address: u32) -> usize
@@ -26,17 +24,19 @@ pub(crate) fn word_index(address: u32) -> usize
     ((address - CODE_START) / 4) as usize
 }
 
-/// The instructions of words, decoded.
-fn decoded(alloc: Global, words: &[u32]) -> Result<Vec<Decoded>, AllocError>
-    requires { ∥ ((instructions : List Ins) × AreWords instructions words.now) ∥₁ }
-    ensures { IfOk result (λ found. (instructions : List Ins) → AreWords instructions words.now → instructions_of found.items ≡ instructions) }
+/// The instructions of words, decoded, each with the mark that stands at its place.
+fn decoded(alloc: Global, words: &[u32], begins: &[bool]) -> Result<Vec<Decoded>, AllocError>
+    requires words { ∥ ((instructions : List Ins) × AreWords instructions words.now) ∥₁ }
+    requires begins { length begins.now ≡ length words.now }
+    ensures instructions { IfOk result (λ found. (instructions : List Ins) → AreWords instructions words.now → instructions_of found.items ≡ instructions) }
+    ensures begins { IfOk result (λ found. begins_of found.items ≡ begins.now) }
 {
     let mut found = Vec::with_capacity(alloc, words.len())?;
-    for word in words {
-        let Some(instruction) = decode(*word) else {
+    for at in 0..words.len() {
+        let Some(instruction) = decode(words[at]) else {
             unreachable!()
         };
-        found.push(Decoded::of(instruction))?;
+        found.push(Decoded::of(instruction, begins[at]))?;
     }
     Ok(found)
 }
@@ -65,9 +65,10 @@ impl Code {
     pub(crate) fn of(alloc: Global, image: &Image) -> Result<Code, AllocError>
         requires { ∥ HasProgram image.now ∥₁ }
         ensures instructions { IfOk result (λ code. (p : Program) → IsPlainImage p image.now → instructions_of code.instructions.items ≡ code_of Unchanged p) }
+        ensures begins { IfOk result (λ code. begins_of code.instructions.items ≡ image.now.begins) }
         ensures handles { IfOk result (λ code. code.handles.items ≡ handles_of image.now.forks (replicate (length image.now.words) Zero)) }
     {
-        let instructions = decoded(alloc, image.words.as_slice())?;
+        let instructions = decoded(alloc, image.words.as_slice(), image.begins.as_slice())?;
         let handles = handles(alloc, image.forks.as_slice(), image.words.as_slice().len())?;
         Ok(Code {
             instructions,

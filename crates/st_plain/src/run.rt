@@ -1,5 +1,5 @@
 //! A run of unchanged code, item by item.
-ghost use Rattle.std.specs.Prelude.{◌≡◌, ◌<◌, ◌≤◌, ℕ, length, nat_lt, IfOk, IfSome, None, Some, reverse};
+ghost use Rattle.std.specs.Prelude.{◌≡◌, ◌<◌, ◌≤◌, ℕ, false, length, nat_lt, true, IfOk, IfSome, None, Some, reverse};
 ghost use Rattle.st_base.specs.declared.limits.LimitKind.{LimitKind};
 ghost use Rattle.st_base.specs.declared.limits.Limits.{Limits};
 ghost use Rattle.st_model.specs.declared.ordinary.OrdEnd.{OrdEnd};
@@ -18,8 +18,10 @@ use crate::code::{Code, word_index};
 use crate::stop::Ending;
 use crate::threads::Threads;
 use crate::whole::PlainEnd;
+use st_base::entry::Entry;
 use st_base::image::Image;
 use st_base::limits::{LimitKind, Limits};
+use st_base::map::{CODE_START, STACKS_START};
 use st_base::reg::Reg;
 use st_step::{Machine, StepEnd};
 use st_words::board::NamesView;
@@ -27,12 +29,6 @@ use st_words::plain::PlainBoard;
 use std::alloc::{AllocError, Global};
 use std::marker::Brand;
 
-/// Where the code begins; the entries of the runtime stand below.
-const CODE_START: u32 = 0x1_0000;
-/// Where the stack begins.
-const STACK_START: u64 = 0x8000_0000;
-/// The entry to which the root's first call comes back.
-const END: u64 = 0x30;
 /// The fewest cells that a board may have.
 const LEAST_CELLS: u32 = 16;
 
@@ -83,10 +79,10 @@ impl PlainRun {
         let threads = Threads::open(alloc, limits.cells)?;
         let sizes = stack_alone(limits);
         let board = PlainBoard::open::<Brand>(alloc, &sizes, 1)?;
-        let high = STACK_START + u64::from(limits.stack);
-        let mut machine = Machine::new(STACK_START, high);
+        let high = STACKS_START + u64::from(limits.stack);
+        let mut machine = Machine::new(STACKS_START, high);
         machine.set_reg(Reg::Sp, high);
-        machine.set_reg(Reg::Ra, END);
+        machine.set_reg(Reg::Ra, u64::from(Entry::End.address()));
         machine.set_reg(Reg::A0, input.len() as u64);
         machine.set_pc(image.main_at);
         Ok(PlainRun {
@@ -104,17 +100,18 @@ impl PlainRun {
         self.machine.pc() < CODE_START
     }
 
-    /// How many items begin with the next instruction: one at an item's first, and none amid it.
-    pub fn begun(&self, image: &Image) -> u64
+    /// Whether an item begins with the next instruction.
+    pub fn begins_item(&self) -> bool
         requires code { 0x10000 ≤ self.now.machine.pc }
-        requires inside { word_index self.now.machine.pc < length image.now.begins }
-        ensures ready { (p : Program) → (d : Data) → (limits : Limits) → (s : State) → IsReady p image.now d limits self.now s → result ≡ 1 }
-        ensures amid { (p : Program) → (d : Data) → (limits : Limits) → (drawn : ℕ) → (s : State) → (left : ℕ) → IsUnderWay p image.now d limits drawn self.now s left → left < 42 → result ≡ 0 }
+        requires inside { word_index self.now.machine.pc < length self.now.code.instructions.items }
+        ensures ready { (p : Program) → (image : Image) → (d : Data) → (limits : Limits) → (s : State) → IsReady p image d limits self.now s → result ≡ true }
+        ensures amid { (p : Program) → (image : Image) → (d : Data) → (limits : Limits) → (drawn : ℕ) → (s : State) → (left : ℕ) → IsUnderWay p image d limits drawn self.now s left → left < 42 → result ≡ false }
     {
+        let begins = self.code.instructions[word_index(self.machine.pc())].begins;
         if self.machine.is_half_done() {
-            return 0;
+            return false;
         }
-        u64::from(image.begins.as_slice()[word_index(self.machine.pc())])
+        begins
     }
 
     /// Does what the runtime does at the entry at which the run is.

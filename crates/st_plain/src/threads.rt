@@ -11,13 +11,11 @@ use crate::cells::{Cell, Note};
 use crate::reserved::Reserved;
 use crate::stop::Ending;
 use crate::whole::PlainEnd;
+use st_base::map::MOST_PRINTED;
 use st_base::path::{Bytes, Path};
 use st_base::reg::Reg;
 use st_model::ordinary::OrdEnd;
 use std::alloc::{AllocError, Global};
-
-/// The most bytes that are printed.
-const MOST_BYTES: usize = 1_048_576;
 
 /// The threads that have not ended, the newest last, the cells that were drawn, by their numbers, and the bytes that were printed.
 #[derive(Drop)]
@@ -48,7 +46,7 @@ impl Threads {
         let room = cells as usize;
         let mut notes = Reserved::open(alloc, room)?;
         let mut cells = Reserved::open(alloc, room)?;
-        let out = Reserved::open(alloc, MOST_BYTES)?;
+        let out = Reserved::open(alloc, MOST_PRINTED)?;
         let path = Reserved::open(alloc, room)?;
         notes.push(Note {
             cell: 0,
@@ -162,7 +160,7 @@ impl Threads {
     pub(crate) fn may_print(&self) -> bool
         ensures { result ≡ nat_lt (length self.now.out.items.items) 1048576 }
     {
-        self.out.items.len() < MOST_BYTES
+        self.out.items.len() < MOST_PRINTED
     }
 
     /// Prints a byte.

@@ -48,7 +48,7 @@ pub fn plain(
             }
             continue;
         }
-        let begun = run.begun(image);
+        let begun = u64::from(run.begins_item());
         if left < begun {
             return Ok(PlainEnd::Limit(LimitKind::Step { worker: 0 }));
         }

@@ -14,3 +14,4 @@ pub mod Steps
 pub mod RolesSuit
 pub mod StackWords
 pub mod BoardKept
+pub mod Order

@@ -5,6 +5,7 @@ use Rattle.st_rv.specs.Results.{access_size, extended}
 use Rattle.st_step.specs.declared.state.State.{State}
 use Rattle.st_step.specs.declared.act.Act.{Act}
 use Rattle.st_step.specs.declared.act.Act.TheVariants as acts
+use Rattle.st_step.specs.declared.machine.StepEnd.TheVariants.{Trap, StackFull}
 use Rattle.st_step.specs.Roles.{word_at}
 use Rattle.st_step.specs.Moves.{Move, Goes, Reads, Writes, Marks, Stops, Outside, results, at_place, written, goes_on, bytes_of}
 
@@ -19,7 +20,8 @@ move_by m (acts.Load op rd place address) = Reads place (λ n. results m rd (ext
 move_by m (acts.Fetch place) = Reads place (λ n. record m { half = Some n })
 move_by m (acts.Store place value) = Writes place value (goes_on m)
 move_by m (acts.Mark place) = Marks place (goes_on m)
-move_by m (acts.Stop end) = Stops end
+move_by m (acts.Trap kind) = Stops (Trap kind)
+move_by m (acts.StackFull frame) = Stops (StackFull frame)
 move_by m acts.Outside = Outside
 
 -- no immediate of a word is less, so that a frame which is made fits 32 bits

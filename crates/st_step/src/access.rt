@@ -6,14 +6,10 @@ ghost use Rattle.st_step.specs.Moves.{register, address_of, is_stack, is_mark, i
 ghost use Rattle.st_words.specs.Steps.{place_of};
 
 use crate::state::State;
+use st_base::map::{STACKS_BYTES, STACKS_START};
 use st_base::reg::Reg;
 use st_rv::ins::{Ins, Op};
 use st_rv::results::word_of;
-
-/// Where the stacks begin.
-const STACKS_BASE: u64 = 0x8000_0000;
-/// The bytes of all stacks.
-const STACKS_BYTES: u64 = 0x1_0000_0000;
 
 impl State {
     /// What a register holds.
@@ -66,7 +62,9 @@ pub(crate) fn in_one_word(address: u64, size: usize) -> bool
     requires { size ≤ 8 }
     ensures { result ≡ in_one_word address size }
 {
-    address >= STACKS_BASE && address < STACKS_BASE + STACKS_BYTES && address % 8 + size as u64 <= 8
+    address >= STACKS_START
+        && address < STACKS_START + STACKS_BYTES
+        && address % 8 + size as u64 <= 8
 }
 
 /// The place of the stack word of an address.
@@ -75,7 +73,7 @@ pub(crate) fn place_of(address: u64) -> u32
     requires to { address < 0x8000_0000 + 2 ^ 32 }
     ensures { result ≡ place_of address }
 {
-    ((address - STACKS_BASE) / 8) as u32
+    ((address - STACKS_START) / 8) as u32
 }
 
 /// The place of the stack word that begins at an address.

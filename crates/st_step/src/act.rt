@@ -1,6 +1,6 @@
 //! What an instruction does, as data: it is chosen by the instruction and the machine as it stands, and then carried out.
-use crate::machine::StepEnd;
 use st_base::reg::Reg;
+use st_base::thread::TrapKind;
 use st_rv::ins::Op;
 
 /// What an instruction does: it changes the machine alone, or makes one step of the board, or stops.
@@ -50,8 +50,12 @@ pub(crate) enum Act {
     Mark {
         place: u32,
     },
-    /// It stops, and leaves the machine as it is.
-    Stop(StepEnd),
+    /// It traps, and leaves the machine as it is.
+    Trap(TrapKind),
+    /// The stack has no room for a frame of so many bytes; the machine is left as it is.
+    StackFull {
+        frame: u32,
+    },
     /// It is no instruction of a posted program here.
     Outside,
 }

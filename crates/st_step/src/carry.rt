@@ -48,7 +48,9 @@ impl State {
         ensures { self.new ≡ at_place pc self.old }
     {
         self.pc = pc;
-        self.half = None;
+        if self.half.is_some() {
+            self.half = None;
+        }
     }
 
     /// Goes on at the next instruction.
@@ -59,21 +61,22 @@ impl State {
     }
 
     /// Goes on with a result in a register.
+    #[tactic(auto, using(crate::proofs::Order::written_going))]
     pub(crate) fn put(&mut self, r: Reg, v: u64)
         ensures { self.new ≡ results self.old r v }
     {
-        let next = self.pc.wrapping_add(4);
+        self.go_on();
         self.write(r, v);
-        self.go(next);
     }
 
     /// Goes on at another address, with the address behind the jump in a register.
+    #[tactic(auto, using(crate::proofs::Order::written_placed))]
     pub(crate) fn link(&mut self, r: Reg, pc: u32)
         ensures { self.new ≡ at_place pc (written self.old r (self.old.pc + 4)) }
     {
         let back = u64::from(self.pc) + 4;
-        self.write(r, back);
         self.go(pc);
+        self.write(r, back);
     }
 
     /// Loads the stack word at an address into a register, and goes on.
@@ -138,7 +141,8 @@ impl State {
                 board.mark::<N>(w, place);
                 self.go_on();
             }
-            Act::Stop(end) => return end,
+            Act::Trap(kind) => return StepEnd::Trap(kind),
+            Act::StackFull { frame } => return StepEnd::StackFull { frame },
             Act::Outside => unreachable!(),
         }
         StepEnd::Ran

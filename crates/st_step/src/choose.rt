@@ -12,7 +12,6 @@ use crate::access::{in_one_word, is_aligned, is_mark, is_stack, makes_frame, pla
 use crate::act::Act;
 use crate::bytes::with_bytes;
 use crate::decoded::{Decoded, Role};
-use crate::machine::StepEnd;
 use crate::state::State;
 use st_base::reg::Reg;
 use st_base::thread::TrapKind;
@@ -76,7 +75,7 @@ fn frame_act(m: &State, i: &Ins) -> Act
 {
     let frame = frame_of(i);
     if lacks_room(m, frame) {
-        return Act::Stop(StepEnd::StackFull { frame });
+        return Act::StackFull { frame };
     }
     immediate_by(m, i, Op::Addi)
 }
@@ -87,7 +86,7 @@ fn immediate_act(m: &State, i: &Ins) -> Act
     ensures { move_by m.now result ≡ immediate_move m.now i.now }
 {
     if makes_frame(i) && lacks_room(m, frame_of(i)) {
-        return Act::Stop(StepEnd::StackFull { frame: frame_of(i) });
+        return Act::StackFull { frame: frame_of(i) };
     }
     Act::Result {
         rd: i.rd,
@@ -134,10 +133,10 @@ fn data_load(i: &Ins, rodata: &[u8], input: &[u8], address: u64) -> Act
     ensures { (m : State) → move_by m result ≡ data_load (data_of rodata.now input.now) m i.now address }
 {
     if !is_aligned(i.op, address) {
-        return Act::Stop(StepEnd::Trap(TrapKind::Misaligned));
+        return Act::Trap(TrapKind::Misaligned);
     }
     match load_data(rodata, input, address, access_size(i.op)) {
-        None => Act::Stop(StepEnd::Trap(TrapKind::LoadRange)),
+        None => Act::Trap(TrapKind::LoadRange),
         Some(value) => Act::Result {
             rd: i.rd,
             value: extended(i.op, value),
@@ -304,7 +303,7 @@ fn role_act(m: &State, role: Role, i: &Ins, rodata: &[u8], input: &[u8]) -> Act
         Role::Branch => branch_by(m, i, i.op),
         Role::Jump => jump_act(m, i),
         Role::IndirectJump => indirect_act(i, m.address_of(i)),
-        Role::Break => Act::Stop(StepEnd::Trap(TrapKind::Abort)),
+        Role::Break => Act::Trap(TrapKind::Abort),
     }
 }
 

@@ -181,22 +181,25 @@ pub(crate) fn role_of(i: Ins) -> Role
     }
 }
 
-/// An instruction with what it is to the machine.
+/// An instruction with what it is to the machine, and with a mark of whoever decodes it: whether an item begins with it.
 #[derive(Clone, Copy)]
 pub struct Decoded {
     pub ins: Ins,
     pub role: Role,
+    pub begins: bool,
     ghost suits: { Suits role ins },
 }
 
 impl Decoded {
     /// The instruction, with what it is to the machine.
-    pub fn of(ins: Ins) -> Decoded
-        ensures { result.ins ≡ ins }
+    pub fn of(ins: Ins, begins: bool) -> Decoded
+        ensures ins { result.ins ≡ ins }
+        ensures begins { result.begins ≡ begins }
     {
         Decoded {
             ins,
             role: role_of(ins),
+            begins,
         }
     }
 }

@@ -10,19 +10,18 @@ ghost use Rattle.st_words.specs.Made.{Asked, StepMade};
 use crate::choose::act_of;
 use crate::decoded::Decoded;
 use crate::machine::{Machine, StepEnd};
+use st_base::entry::Entry;
 use st_base::image::Image;
+use st_base::map::CODE_START;
 use st_rv::code::decode;
 use st_rv::ins::Ins;
 use st_words::board::{Board, NamesView};
-
-/// Where the code begins.
-const CODE_BASE: u32 = 0x1_0000;
 
 /// Whether an address is that of an entry of the runtime: 0x10 to 0x90.
 pub(crate) fn is_entry(pc: u32) -> bool
     ensures { result ≡ is_entry pc }
 {
-    pc % 16 == 0 && 0x10 <= pc && pc <= 0x90
+    pc % 16 == 0 && Entry::ForkIn.address() <= pc && pc <= Entry::Putc.address()
 }
 
 /// The instruction of an image's word at an address.
@@ -30,7 +29,7 @@ fn fetched(image: &Image, pc: u32) -> Option<Ins>
     ensures some { IfSome result (λ i. IsBounded i) }
     ensures only { (i : Ins) → Fetches image.now pc i → result ≡ Some i }
 {
-    let offset = pc.checked_sub(CODE_BASE)?;
+    let offset = pc.checked_sub(CODE_START)?;
     let word = image.words.as_slice().get((offset / 4) as usize)?;
     decode(*word)
 }
@@ -54,7 +53,13 @@ impl Machine {
         let Some(i) = fetched(image, pc) else {
             unreachable!()
         };
-        self.execute::<B, N>(&Decoded::of(i), image.rodata.as_slice(), input, board, w)
+        self.execute::<B, N>(
+            &Decoded::of(i, false),
+            image.rodata.as_slice(),
+            input,
+            board,
+            w,
+        )
     }
 
     /// One instruction, or half of a store of less than eight bytes, that the caller has decoded; it takes no memory.

@@ -1,10 +1,11 @@
 -- Each item that is begun takes one of those that are left, and the bounded run with it.
-use Rattle.std.proofs.Common.{◌-◌, inl, sym, ◌∙◌, arith}
+use Rattle.std.proofs.Common.{◌-◌, ap, inl, sym, ◌∙◌, arith}
+use Rattle.std.specs.Int.{from_bool}
 use Rattle.std.proofs.lemmas.Bool.{ltb-false, ltb-true}
 use Rattle.std.proofs.Math.Logic.{∥∥₁_elim, ∥∥₁_map}
 use Rattle.std.proofs.Math.Bridge.{le_prop}
 use Rattle.st_model.specs.Memory.{data_of}
-use Rattle.st_plain.proofs.WholeRun.{at_entry, begins_inside, first_on_run, in_item, item_ends, never_going, next_stage, none_begins, past_all, steps_passed}
+use Rattle.st_plain.proofs.WholeRun.{at_entry, first_on_run, in_item, item_ends, never_going, next_stage, none_begins, past_all, rows_inside, steps_passed}
 use Rattle.st_plain.proofs.whole.plain.Goals as goal
 
 pub loop-init : goal.loop-init
@@ -47,33 +48,33 @@ loop-preserved-then-is_at_entry c = record {
       next_stage p c.args.image.now d c.args.limits.now c.loop.run c.serve.new.self c.loop.left c.loop.counter x (c.serve.ensures.going c.in_default.is p d c.args.limits.now x.drawn x.s x.turns x.under);
 }
 
-pub begun-begun-requires-clause-inside : goal.begun-begun-requires-clause-inside
-begun-begun-requires-clause-inside c = ∥∥₁_elim c.requires.image le_prop (λ h.
-    begins_inside h.0 c.args.image.now (data_of c.args.image.now.rodata c.args.input.now) c.args.limits.now c.loop.run c.loop.left c.loop.counter (ltb-false c.loop.run.machine.pc 0x10000 (sym c.is_at_entry.ensures ∙ c.if-is_at_entry.false)) (c.loop.invariant.stage h.0 h.1))
+pub begins_item-requires-clause-inside : goal.begins_item-requires-clause-inside
+begins_item-requires-clause-inside c = ∥∥₁_elim c.requires.image le_prop (λ h.
+    rows_inside h.0 c.args.image.now (data_of c.args.image.now.rodata c.args.input.now) c.args.limits.now c.loop.run c.loop.left c.loop.counter (ltb-false c.loop.run.machine.pc 0x10000 (sym c.is_at_entry.ensures ∙ c.if-is_at_entry.false)) (c.loop.invariant.stage h.0 h.1))
 
 pub returns-then-left-begun-clause-end : goal.returns-then-left-begun-clause-end
 returns-then-left-begun-clause-end c = λ p pi.
     let d = data_of c.args.image.now.rodata c.args.input.now in
     steps_passed p c.args.image.now d c.args.limits.now c.loop.run
-    (none_begins p c.args.image.now d c.args.limits.now c.loop.run c.loop.left c.loop.counter c.begun-begun.result (c.loop.invariant.stage p pi) (λ s ready. c.begun-begun.ensures.ready p d c.args.limits.now s ready)
-    (λ drawn s turns under few. c.begun-begun.ensures.amid p d c.args.limits.now drawn s turns under few) c.if-left-begun.true)
+    (none_begins p c.args.image.now d c.args.limits.now c.loop.run c.loop.left c.loop.counter c.from-begun.result (c.loop.invariant.stage p pi) (λ s ready. c.from-begun.ensures ∙ ap from_bool (c.begins_item.ensures.ready p c.args.image.now d c.args.limits.now s ready))
+    (λ drawn s turns under few. c.from-begun.ensures ∙ ap from_bool (c.begins_item.ensures.amid p c.args.image.now d c.args.limits.now drawn s turns under few)) c.if-left-begun.true)
 
 pub instruction-requires-clause-amid : goal.instruction-requires-clause-amid
 instruction-requires-clause-amid c = ∥∥₁_map c.requires.image (λ h.
     let d = data_of c.args.image.now.rodata c.args.input.now in
     let enough = c.if-left-begun.false in
-    let x = in_item h.0 c.args.image.now d c.args.limits.now c.loop.run c.loop.left (c.loop.left - c.begun-begun.result) c.loop.counter c.begun-begun.result (c.loop.invariant.stage h.0 h.1) (λ s ready. c.begun-begun.ensures.ready h.0 d c.args.limits.now s ready)
-    (λ drawn s turns under few. c.begun-begun.ensures.amid h.0 d c.args.limits.now drawn s turns under few) (omega (arith, enough)) in
+    let x = in_item h.0 c.args.image.now d c.args.limits.now c.loop.run c.loop.left (c.loop.left - c.from-begun.result) c.loop.counter c.from-begun.result (c.loop.invariant.stage h.0 h.1) (λ s ready. c.from-begun.ensures ∙ ap from_bool (c.begins_item.ensures.ready h.0 c.args.image.now d c.args.limits.now s ready))
+    (λ drawn s turns under few. c.from-begun.ensures ∙ ap from_bool (c.begins_item.ensures.amid h.0 c.args.image.now d c.args.limits.now drawn s turns under few)) (omega (arith, enough)) in
     (h.0, c.args.limits.now, x.drawn, x.s, x.turns, x.under))
 
 pub returns-in-Some-instruction-clause-end : goal.returns-in-Some-instruction-clause-end
 returns-in-Some-instruction-clause-end c = λ p pi.
     let d = data_of c.args.image.now.rodata c.args.input.now in
     let enough = c.if-left-begun.false in
-    let x = in_item p c.args.image.now d c.args.limits.now c.loop.run c.loop.left (c.loop.left - c.begun-begun.result) c.loop.counter c.begun-begun.result (c.loop.invariant.stage p pi) (λ s ready. c.begun-begun.ensures.ready p d c.args.limits.now s ready)
-    (λ drawn s turns under few. c.begun-begun.ensures.amid p d c.args.limits.now drawn s turns under few) (omega (arith, enough)) in
+    let x = in_item p c.args.image.now d c.args.limits.now c.loop.run c.loop.left (c.loop.left - c.from-begun.result) c.loop.counter c.from-begun.result (c.loop.invariant.stage p pi) (λ s ready. c.from-begun.ensures ∙ ap from_bool (c.begins_item.ensures.ready p c.args.image.now d c.args.limits.now s ready))
+    (λ drawn s turns under few. c.from-begun.ensures ∙ ap from_bool (c.begins_item.ensures.amid p c.args.image.now d c.args.limits.now drawn s turns under few)) (omega (arith, enough)) in
     let threads = c.instruction.new.self.threads in
-    item_ends p c.args.image.now d c.args.limits.now c.loop.run (c.loop.left - c.begun-begun.result) c.loop.counter threads.notes.items.items threads.out.items.items c.in-Some-instruction.ending c.into_end-in-Some-instruction.result x
+    item_ends p c.args.image.now d c.args.limits.now c.loop.run (c.loop.left - c.from-begun.result) c.loop.counter threads.notes.items.items threads.out.items.items c.in-Some-instruction.ending c.into_end-in-Some-instruction.result x
     (c.into_end-in-Some-instruction.ensures.end, c.into_end-in-Some-instruction.ensures.limit) (c.in-Some-instruction.ensures.over p c.args.limits.now x.drawn x.s x.turns x.under)
 
 pub returns-in-Some-instruction-clause-ended : goal.returns-in-Some-instruction-clause-ended
@@ -81,8 +82,8 @@ returns-in-Some-instruction-clause-ended c = λ going.
     ∥∥₁_elim c.requires.image (λ x y. absurd x) (λ h.
     let d = data_of c.args.image.now.rodata c.args.input.now in
     let enough = c.if-left-begun.false in
-    let x = in_item h.0 c.args.image.now d c.args.limits.now c.loop.run c.loop.left (c.loop.left - c.begun-begun.result) c.loop.counter c.begun-begun.result (c.loop.invariant.stage h.0 h.1) (λ s ready. c.begun-begun.ensures.ready h.0 d c.args.limits.now s ready)
-    (λ drawn s turns under few. c.begun-begun.ensures.amid h.0 d c.args.limits.now drawn s turns under few) (omega (arith, enough)) in
+    let x = in_item h.0 c.args.image.now d c.args.limits.now c.loop.run c.loop.left (c.loop.left - c.from-begun.result) c.loop.counter c.from-begun.result (c.loop.invariant.stage h.0 h.1) (λ s ready. c.from-begun.ensures ∙ ap from_bool (c.begins_item.ensures.ready h.0 c.args.image.now d c.args.limits.now s ready))
+    (λ drawn s turns under few. c.from-begun.ensures ∙ ap from_bool (c.begins_item.ensures.amid h.0 c.args.image.now d c.args.limits.now drawn s turns under few)) (omega (arith, enough)) in
     let threads = c.instruction.new.self.threads in
     never_going h.0 d c.args.limits.now x.drawn threads.notes.items.items threads.out.items.items x.s c.in-Some-instruction.ending c.into_end-in-Some-instruction.result
     (c.into_end-in-Some-instruction.ensures.end, c.into_end-in-Some-instruction.ensures.limit) (c.in-Some-instruction.ensures.over h.0 c.args.limits.now x.drawn x.s x.turns x.under) going)
@@ -93,9 +94,9 @@ loop-preserved c = record {
   stage = λ p pi.
       let d = data_of c.args.image.now.rodata c.args.input.now in
       let enough = c.if-left-begun.false in
-      let x = in_item p c.args.image.now d c.args.limits.now c.loop.run c.loop.left (c.loop.left - c.begun-begun.result) c.loop.counter c.begun-begun.result (c.loop.invariant.stage p pi) (λ s ready. c.begun-begun.ensures.ready p d c.args.limits.now s ready)
-      (λ drawn s turns under few. c.begun-begun.ensures.amid p d c.args.limits.now drawn s turns under few) (omega (arith, enough)) in
-      next_stage p c.args.image.now d c.args.limits.now c.loop.run c.instruction.new.self (c.loop.left - c.begun-begun.result) c.loop.counter x (c.instruction.ensures.going c.in_default-instruction.is p c.args.limits.now x.drawn x.s x.turns x.under);
+      let x = in_item p c.args.image.now d c.args.limits.now c.loop.run c.loop.left (c.loop.left - c.from-begun.result) c.loop.counter c.from-begun.result (c.loop.invariant.stage p pi) (λ s ready. c.from-begun.ensures ∙ ap from_bool (c.begins_item.ensures.ready p c.args.image.now d c.args.limits.now s ready))
+      (λ drawn s turns under few. c.from-begun.ensures ∙ ap from_bool (c.begins_item.ensures.amid p c.args.image.now d c.args.limits.now drawn s turns under few)) (omega (arith, enough)) in
+      next_stage p c.args.image.now d c.args.limits.now c.loop.run c.instruction.new.self (c.loop.left - c.from-begun.result) c.loop.counter x (c.instruction.ensures.going c.in_default-instruction.is p c.args.limits.now x.drawn x.s x.turns x.under);
 }
 
 pub unreachable-requires : goal.unreachable-requires
