@@ -5,7 +5,7 @@ use crate::act::Act;
 use crate::bytes::{bytes_of, with_bytes};
 use crate::choose::act_of;
 use crate::decoded::Decoded;
-use crate::machine::{Machine, StepEnd};
+use crate::machine::Machine;
 use crate::state::State;
 use crate::stepping::is_entry;
 use st_base::reg::Reg;
@@ -60,7 +60,7 @@ fn result(rd: Reg, value: u64) -> Act {
 }
 
 fn trap(kind: TrapKind) -> Act {
-    Act::Stop(StepEnd::Trap(kind))
+    Act::Trap(kind)
 }
 
 #[test]
@@ -100,7 +100,7 @@ fn an_act_is_chosen_by_the_instruction_and_the_machine(rt: HostRuntime) {
             Reg::Sp,
             Reg::Zero,
             -64,
-            Act::Stop(StepEnd::StackFull { frame: 64 }),
+            Act::StackFull { frame: 64 },
         ),
         (
             None,
@@ -327,7 +327,10 @@ fn an_act_is_chosen_by_the_instruction_and_the_machine(rt: HostRuntime) {
         ),
     ] {
         let i = ins(op, rd, rs1, rs2, imm);
-        assert_eq!(rt; act_of(&state(half), &Decoded::of(i), &RODATA, &INPUT), act);
+        assert_eq!(rt;
+            act_of(&state(half), &Decoded::of(i, false), &RODATA, &INPUT),
+            act
+        );
     }
 }
 
