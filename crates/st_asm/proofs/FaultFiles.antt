@@ -5,8 +5,8 @@ use Rattle.st_base.specs.declared.line.Line.{Line}
 use Rattle.st_line.specs.declared.fault.AsmKind.{AsmKind}
 use Rattle.st_line.specs.declared.fault.AsmKind.TheVariants.{TooLarge}
 use Rattle.st_line.specs.declared.fault.AsmFault.{AsmFault}
-use Rattle.st_asm.specs.declared.error.AsmError.{AsmError}
-use Rattle.st_asm.specs.declared.error.AsmError.TheVariants as errors
+use Rattle.st_base.specs.declared.failure.Failure.{Failure}
+use Rattle.st_base.specs.declared.failure.Failure.TheVariants as errors
 use Rattle.st_asm.specs.declared.whole.Unit.{Unit as Whole}
 use Rattle.st_asm.specs.Labels.{Located, Definition, lines_of, numbered, located, definitions_of}
 use Rattle.st_asm.specs.Assembly.{Assembly, nothing, checked_line, checked_lines, then_lines, unit_from, unit_when, unit_of, too_long}
@@ -68,7 +68,7 @@ unit_of-fault : (texts : List (List ℕ)) (fault : AsmFault) → unit_of texts �
 unfolding unit_of
 unit_of-fault texts fault e = unit_when-fault texts (too_long 1 0 texts) fault refl e
 
-pub has_file-from_unit : (result : Result Whole AsmError) (texts : List (List ℕ)) (files : ℕ) → length texts ≡ files → GivesUnit result (unit_of texts) → HasFile files result
+pub has_file-from_unit : (result : Result Whole (Failure AsmFault)) (texts : List (List ℕ)) (files : ℕ) → length texts ≡ files → GivesUnit result (unit_of texts) → HasFile files result
 has_file-from_unit (Ok unit) texts files n h = tt
 has_file-from_unit (Err errors.OutOfMemory) texts files n h = tt
 has_file-from_unit (Err (errors.Fault fault)) texts files n h = subst (λ k. (1 ≤ fault.line.file) × (fault.line.file ≤ k)) n (unit_of-fault texts fault h)

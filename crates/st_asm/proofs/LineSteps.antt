@@ -4,8 +4,8 @@ use Rattle.std.proofs.Math.Seq.{drop-cons}
 use Rattle.st_base.specs.declared.line.Line.{Line}
 use Rattle.st_line.specs.declared.fault.AsmKind.{AsmKind}
 use Rattle.st_line.specs.declared.fault.AsmFault.{AsmFault}
-use Rattle.st_asm.specs.declared.error.AsmError.{AsmError}
-use Rattle.st_asm.specs.declared.error.AsmError.TheVariants as errors
+use Rattle.st_base.specs.declared.failure.Failure.{Failure}
+use Rattle.st_base.specs.declared.failure.Failure.TheVariants as errors
 use Rattle.st_asm.specs.declared.lines.Located.{Located as Located'}
 use Rattle.st_asm.specs.Labels.{Definition}
 use Rattle.st_asm.specs.Assembly.{Assembly, checked_line, checked_lines, then_lines}
@@ -22,7 +22,7 @@ goes_on line rest (Err kind) b e = cc
 located_views-drop : (ls : List Located') (i : ℕ) (d : Located') → i < length ls → located_views (drop i ls) ≡ located_view (get_or ls i d) ∷ located_views (drop (i + 1) ls)
 located_views-drop ls i d h = ap located_views (drop-cons ls i d h) ∙ ap (λ (k : ℕ). located_view (get_or ls i d) ∷ located_views (drop k ls)) (sym (add-one i))
 
-pub checked_lines-fails : (e : AsmError) (ds : List Definition) (a : Assembly) (ls : List Located') (i : ℕ) (d : Located') → i < length ls → FailsAt e (at_line (get_or ls i d).line (checked_line ds a (located_view (get_or ls i d)))) → FailsAt e (checked_lines ds a (located_views (drop i ls)))
+pub checked_lines-fails : (e : Failure AsmFault) (ds : List Definition) (a : Assembly) (ls : List Located') (i : ℕ) (d : Located') → i < length ls → FailsAt e (at_line (get_or ls i d).line (checked_line ds a (located_view (get_or ls i d)))) → FailsAt e (checked_lines ds a (located_views (drop i ls)))
 checked_lines-fails errors.OutOfMemory ds a ls i d h f = tt
 checked_lines-fails (errors.Fault fault) ds a ls i d h f =
     ap (checked_lines ds a) (located_views-drop ls i d h) ∙ fails (get_or ls i d).line (λ b. checked_lines ds b (located_views (drop (i + 1) ls))) (checked_line ds a (located_view (get_or ls i d))) fault f
@@ -32,6 +32,6 @@ checked_lines-goes_on ds a b ls i d h f =
     ap (checked_lines ds a) (located_views-drop ls i d h) ∙ goes_on (get_or ls i d).line (λ b. checked_lines ds b (located_views (drop (i + 1) ls))) (checked_line ds a (located_view (get_or ls i d))) b f
 
 -- the fault of what is left is the fault of all
-pub fails_along : (e : AsmError) (r s : Result Assembly AsmFault) → r ≡ s → FailsAt e r → FailsAt e s
+pub fails_along : (e : Failure AsmFault) (r s : Result Assembly AsmFault) → r ≡ s → FailsAt e r → FailsAt e s
 fails_along errors.OutOfMemory r s same f = tt
 fails_along (errors.Fault fault) r s same f = sym same ∙ f

@@ -17,8 +17,8 @@ use Rattle.st_asm.specs.declared.assembly.Spot.{Spot}
 use Rattle.st_asm.specs.declared.assembly.Spot.TheVariants as spots
 use Rattle.st_asm.specs.declared.assembly.Marked.{Marked}
 use Rattle.st_asm.specs.declared.assembly.Assembled.{Assembled}
-use Rattle.st_asm.specs.declared.error.AsmError.{AsmError}
-use Rattle.st_asm.specs.declared.error.AsmError.TheVariants as errors
+use Rattle.st_base.specs.declared.failure.Failure.{Failure}
+use Rattle.st_base.specs.declared.failure.Failure.TheVariants as errors
 use Rattle.st_asm.specs.Labels.{Located, lines_of, Definition, first_line}
 use Rattle.st_line.specs.declared.source.Statement.{Statement}
 use Rattle.st_line.specs.declared.source.Statement.TheVariants as statements
@@ -93,12 +93,12 @@ TellsSpots places ls = (scope : ℕ) (name : List ℕ) → option_map spot_targe
 -- ---- results
 
 -- an error is the fault that reading gives; nothing is said where memory lacks
-abbrev pub FailsAt : {Y : Type 0} → AsmError → Result Y AsmFault → Type 0
+abbrev pub FailsAt : {Y : Type 0} → Failure AsmFault → Result Y AsmFault → Type 0
 FailsAt errors.OutOfMemory read = Unit {0}
 FailsAt (errors.Fault fault) read = read ≡ Err fault
 
 -- a step that was done, with what it made
-abbrev pub Makes : {X Y : Type 0} → Result X AsmError → Y → Result Y AsmFault → Type 0
+abbrev pub Makes : {X Y : Type 0} → Result X (Failure AsmFault) → Y → Result Y AsmFault → Type 0
 Makes (Ok x) made read = read ≡ Ok made
 Makes (Err e) made read = FailsAt e read
 
@@ -138,7 +138,7 @@ pub record IsSmall (a : Assembly) : Type 0 where
 
 -- ---- units
 
-abbrev pub GivesAt : {X Y : Type 0} → (X → Y) → Result X AsmError → Result Y AsmFault → Type 0
+abbrev pub GivesAt : {X Y : Type 0} → (X → Y) → Result X (Failure AsmFault) → Result Y AsmFault → Type 0
 GivesAt view (Ok x) read = read ≡ Ok (view x)
 GivesAt view (Err e) read = FailsAt e read
 
@@ -148,12 +148,12 @@ IsUnitIn parts = ∥ IsUnit parts.functions parts.rodata ∥₁
 abbrev pub parts_of : Whole → Parts
 parts_of u = record { functions = u.functions; rodata = u.rodata }
 
-abbrev pub GivesUnit : Result Whole AsmError → Result Parts AsmFault → Type 0
+abbrev pub GivesUnit : Result Whole (Failure AsmFault) → Result Parts AsmFault → Type 0
 GivesUnit (Ok u) read = read ≡ Ok (parts_of u)
 GivesUnit (Err e) read = FailsAt e read
 
 -- a fault is told in one of so many files
-abbrev pub HasFile : ℕ → Result Whole AsmError → Type 0
+abbrev pub HasFile : ℕ → Result Whole (Failure AsmFault) → Type 0
 HasFile files (Ok u) = Unit {0}
 HasFile files (Err errors.OutOfMemory) = Unit {0}
 HasFile files (Err (errors.Fault fault)) = (1 ≤ fault.line.file) × (fault.line.file ≤ files)

@@ -1,7 +1,7 @@
 //! Reading texts: their lines are checked one after another, against the labels of all files.
 ghost use Rattle.std.specs.Prelude.{◌≡◌, ◌≤◌, List, length, map, IfOk, OnOk};
 ghost use Rattle.st_asm.specs.Labels.{Definition};
-ghost use Rattle.st_asm.specs.declared.error.AsmError.TheVariants.{Fault};
+ghost use Rattle.st_base.specs.declared.failure.Failure.TheVariants.{Fault};
 ghost use Rattle.st_asm.specs.Assembly.{nothing, parts_in, checked_line, checked_lines, too_long, unit_of};
 ghost use Rattle.st_asm.specs.Reading.{seen, located_view, located_views, TellsLines, IsSmall, at_line, Makes, GivesAt, GivesUnit, HasFile, IsUnitIn, parts_of};
 

@@ -12,8 +12,8 @@ use Rattle.st_model.specs.declared.program.ProgramFunction.{ProgramFunction}
 use Rattle.st_model.specs.Flow.{UndefinedRead}
 use Rattle.st_flow.specs.Undefined.{PassesOnce}
 use Rattle.st_check.specs.declared.fault.FormFault.{FormFault}
-use Rattle.st_check.specs.declared.error.FormError.{FormError}
-use Rattle.st_check.specs.declared.error.FormError.TheVariants as errors
+use Rattle.st_base.specs.declared.failure.Failure.{Failure}
+use Rattle.st_base.specs.declared.failure.Failure.TheVariants as errors
 use Rattle.st_check.specs.Faults.{unit_faults, least_fault}
 use Rattle.st_check.specs.Programs.{program_of}
 
@@ -67,7 +67,7 @@ IsUnitLine functions line = (f : ℕ) × ((function : Function) × (slice_get fu
 abbrev pub IsFaultLine : List Function → Line → Type 0
 IsFaultLine functions line = (line ≡ record { file = 1; line = 1 }) ⊎ IsUnitLine functions line
 
-abbrev pub IsErrorLine : List Function → FormError → Type 0
+abbrev pub IsErrorLine : List Function → Failure FormFault → Type 0
 IsErrorLine functions (errors.Fault fault) = IsFaultLine functions fault.line
 IsErrorLine functions errors.OutOfMemory = Unit {0}
 
@@ -87,6 +87,6 @@ HasOrder p = AllPairs IsEarlier (program_lines p.functions)
 -- ---- refusals
 
 -- a refusal but for want of memory tells the unit's first fault, and the unit isn't accepted
-abbrev pub IsRefusal : List Function → FormError → Type 0
+abbrev pub IsRefusal : List Function → Failure FormFault → Type 0
 IsRefusal functions (errors.Fault fault) = IsFirstFault functions fault × (IsAcceptedUnit functions → ⊥)
 IsRefusal functions errors.OutOfMemory = Unit {0}

@@ -8,8 +8,9 @@ use Rattle.st_model.specs.declared.code.PostedWord.{PostedWord}
 use Rattle.st_model.specs.declared.program.Program.{Program}
 use Rattle.st_model.specs.declared.program.ProgramFunction.{ProgramFunction}
 use Rattle.st_model.specs.Layout.{far_at, far_branch, function_words}
-use Rattle.st_link.specs.declared.error.LinkError.{LinkError}
-use Rattle.st_link.specs.declared.error.LinkError.TheVariants.{Fault, OutOfMemory}
+use Rattle.st_link.specs.declared.error.LinkFault.{LinkFault}
+use Rattle.st_base.specs.declared.failure.Failure.{Failure}
+use Rattle.st_base.specs.declared.failure.Failure.TheVariants.{Fault, OutOfMemory}
 
 -- a branch of the postprocessed layout that doesn't reach: its line and its distance
 pub record IsFar (p : Program) (line : Line) (distance : ℤ) : Type 0 where
@@ -26,6 +27,6 @@ abbrev pub IsFirstFar : Program → Line → ℤ → Type 0
 IsFirstFar p line distance = (far_branch p ≡ Some (line, distance)) × ((l : Line) (d : ℤ) → IsFar p l d → IsEarlier l line → ⊥)
 
 -- a refusal but for want of memory tells the first branch that doesn't reach in the postprocessed layout
-abbrev pub IsRefusal : Program → LinkError → Type 0
+abbrev pub IsRefusal : Program → Failure LinkFault → Type 0
 IsRefusal p (Fault fault) = IsFirstFar p fault.line fault.distance
 IsRefusal p OutOfMemory = Unit {0}

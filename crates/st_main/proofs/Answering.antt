@@ -23,7 +23,7 @@ use Rattle.st_print.specs.declared.fault.Fault.{Fault}
 use Rattle.st_print.specs.declared.fault.Fault.TheVariants as faults
 use Rattle.st_print.specs.Telling.{NamesFiles}
 use Rattle.st_check.specs.declared.fault.FormFault.{FormFault}
-use Rattle.st_check.specs.declared.error.FormError.TheVariants as errors
+use Rattle.st_base.specs.declared.failure.Failure.TheVariants as errors
 use Rattle.st_check.specs.Acceptance.{IsAcceptedUnit, IsFirstFault, IsFaultLine, IsErrorLine}
 use Rattle.st_check.specs.Programs.{program_of as program_of'}
 use Rattle.st_main.specs.declared.exit.Exit.{Exit}
