@@ -4,23 +4,9 @@ ghost use Rattle.std.specs.Int.{bit_at};
 ghost use Rattle.st_model.specs.Layout.{saved_among, saved_of};
 
 use st_base::reg::Reg;
+use st_model::code::SAVEABLE;
 use st_model::program::ProgramFunction;
 use std::alloc::{AllocError, Global};
-
-/// The registers that a function may save, in their order.
-const SAVEABLE: [Reg; 11] = [
-    Reg::S1,
-    Reg::S2,
-    Reg::S3,
-    Reg::S4,
-    Reg::S5,
-    Reg::S6,
-    Reg::S7,
-    Reg::S8,
-    Reg::S9,
-    Reg::S10,
-    Reg::S11,
-];
 
 /// Whether the bit of a place is set.
 fn is_set(bits: u16, place: usize) -> bool
@@ -65,8 +51,7 @@ pub(crate) fn saved_of(alloc: Global, function: &ProgramFunction) -> Result<Vec<
     ensures value { IfOk result (λ saved. saved.items ≡ saved_of function.now) }
     ensures few { IfOk result (λ saved. length saved.items ≤ 11) }
 {
-    let saved = saved_among(alloc, function.saved, SAVEABLE.as_slice())?;
-    Ok(saved)
+    saved_among(alloc, function.saved, SAVEABLE.as_slice())
 }
 
 /// How many registers a function saves.
