@@ -5,12 +5,10 @@ ghost use Rattle.st_main.specs.Input.{IsInputFault, IsUntaken, Moves};
 ghost use Rattle.st_main.specs.Making.{MemoryOr};
 
 use st_base::limits::LimitKind;
+use st_base::map::MOST_INPUT;
 use st_base::outside::Source;
 use st_print::Fault;
 use std::alloc::Global;
-
-/// The most bytes of the input: 16,777,216.
-const INPUT_LIMIT: usize = 16_777_216;
 
 /// Takes the input until its end, or until more than 16,777,216 bytes are taken.
 pub fn read_input<S: Source>(alloc: Global, input: &mut S) -> Result<Vec<u8>, Fault>
@@ -19,7 +17,7 @@ pub fn read_input<S: Source>(alloc: Global, input: &mut S) -> Result<Vec<u8>, Fa
     ensures few { IfOk result (λ bytes. length bytes.items ≤ 16777216) }
 {
     let mut bytes = Vec::new(alloc);
-    while bytes.len() <= INPUT_LIMIT {
+    while bytes.len() <= MOST_INPUT {
         if !take_piece(input, &mut bytes)? {
             return Ok(bytes);
         }

@@ -3,11 +3,9 @@ ghost use Rattle.std.specs.Prelude.{◌≡◌, ◌≤◌, ◌<◌, ◌+◌, ◌*
 ghost use Rattle.st_model.specs.Layout.{code_start};
 ghost use Rattle.st_main.specs.Listing.{hex_digit, hex_word, word_line, word_lines, listing_by, words_count};
 
+use st_base::map::CODE_START;
 use st_post::PostedFunction;
 use std::alloc::{AllocError, Global};
-
-/// Where code begins.
-const CODE_START: u32 = 0x10000;
 
 /// The hexadecimal digit of a number below 16.
 fn hex_digit(digit: u32) -> u8

@@ -5,12 +5,10 @@ ghost use Rattle.st_main.specs.Answer.{library_of};
 ghost use Rattle.st_main.specs.Making.{MemoryOr};
 ghost use Rattle.st_main.specs.Reading.{HasRead, HasStart, IsReadFault, IsUnread, Reads};
 
+use st_base::map::MOST_TEXT;
 use st_base::outside::Files;
 use st_print::Fault;
 use std::alloc::Global;
-
-/// The most bytes of all texts: 1,048,576.
-const TEXT_LIMIT: usize = 1_048_576;
 
 /// Reads the files of these names, of which there are 1 to 64, until their ends or until the texts together have more than
 /// 1,048,576 bytes. Such texts make no unit, whatever the files hold behind them, which aren't read then.
@@ -29,7 +27,7 @@ pub fn read_files<F: Files>(
     ensures texts { IfOk result (λ texts. HasRead (F.contents files.old) (map (λ n. string_bytes n) names.now) (map (λ t. t.items) texts.items)) }
 {
     let mut texts = Vec::new(alloc);
-    let mut room = TEXT_LIMIT;
+    let mut room = MOST_TEXT;
     for (i, name) in names.iter().enumerate() {
         let text = read_text(alloc, files, name.as_str(), i as u32 + 1, room)?;
         let length = text.as_slice().len();
