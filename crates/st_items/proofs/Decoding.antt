@@ -1,11 +1,11 @@
 -- Instructions are decoded word by word. Read IsDecoded (those of a front of the words are found), decodes, must_decode.
 use Rattle.std.proofs.lemmas.Option.{slice_get-map}
-use Rattle.std.proofs.Common.{◌≡◌, ℕ, suc, ◌+◌, ◌<◌, ◌≤◌, slice_get, option_map, List, [], ◌∷◌, ◌++◌, length, get_or, drop, Option, Some, None, refl, ap, ◌∙◌, sym, subst, arith, append_assoc}
+use Rattle.std.proofs.Common.{◌≡◌, ℕ, Bool, suc, ◌+◌, ◌<◌, ◌≤◌, slice_get, option_map, List, [], ◌∷◌, ◌++◌, length, get_or, drop, Option, Some, None, refl, ap, ◌∙◌, sym, subst, arith, append_assoc}
 use Rattle.std.proofs.Math.Seq.{drop-cons}
 use Rattle.std.proofs.lemmas.List.{drop_all, append-nil}
 use Rattle.st_rv.specs.declared.ins.Ins.{Ins}
 use Rattle.st_step.specs.declared.decoded.Decoded.{Decoded}
-use Rattle.st_items.specs.Tables.{instructions_of}
+use Rattle.st_items.specs.Tables.{begins_of, instructions_of}
 use Rattle.st_rv.specs.Rows.{IsRow}
 use Rattle.st_model.specs.Layout.{AreWords}
 
@@ -51,6 +51,10 @@ none_decoded whole words are = (whole, refl, are)
 pub with_decoded : (table : List Decoded) (s : Decoded) (i : Ins) → s.ins ≡ i → instructions_of (table ++ s ∷ []) ≡ instructions_of table ++ i ∷ []
 with_decoded [] s i e = ap (λ (k : Ins). k ∷ []) e
 with_decoded (t ∷ table) s i e = ap (λ (is : List Ins). t.ins ∷ is) (with_decoded table s i e)
+
+pub with_marked : (table : List Decoded) (s : Decoded) (b : Bool) → s.begins ≡ b → begins_of (table ++ s ∷ []) ≡ begins_of table ++ b ∷ []
+with_marked [] s b e = ap (λ (k : Bool). k ∷ []) e
+with_marked (t ∷ table) s b e = ap (λ (bs : List Bool). t.begins ∷ bs) (with_marked table s b e)
 
 -- the instruction at a place of a table
 pub decoded_at : (table : List Decoded) (at : ℕ) (s : Decoded) → slice_get table at ≡ Some s → slice_get (instructions_of table) at ≡ Some s.ins

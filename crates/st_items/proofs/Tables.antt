@@ -1,7 +1,7 @@
 -- What an image has of each word of its code, in either layout: that it begins an item (begins_at), its line (lines_at), of a fork's first jump the
 -- register of its handle (handle_at), and the word itself (words_decoded, fetched_at).
 use Rattle.std.proofs.Common.{◌≡◌, ◌≢◌, ◌∙◌, ℕ, zero, suc, ◌+◌, ◌*◌, ◌<◌, Bool, List, [], ◌∷◌, ◌++◌, Some, length, take, set, replicate, get_or, slice_get, refl, ap, sym, subst, arith, length-set}
-use Rattle.std.proofs.lemmas.List.{length-replicate}
+use Rattle.std.proofs.lemmas.List.{length-replicate, length-map}
 use Rattle.std.specs.Prelude.{◌==◌}
 use Rattle.std.specs.Option.{option_map}
 use Rattle.std.proofs.lemmas.Option.{slice_get-map, slice_get-get_or}
@@ -25,7 +25,7 @@ use Rattle.st_model.specs.Layout.{IsCodeOf, return, item_ins, item_size, items_s
 use Rattle.st_step.specs.Moves.{Fetches}
 use Rattle.st_items.specs.Code.{word_index, code_at, HasItem}
 use Rattle.st_items.specs.Tables.{handles_of}
-use Rattle.st_items.proofs.Words.{set_there, set_other, item-length, program-word, code-length}
+use Rattle.st_items.proofs.Words.{set_there, set_other, item-length, program-word, program-length, code-length}
 use Rattle.st_items.proofs.Addresses.{word_index_at, word_place, code_at_word, function-within, item-within}
 
 module _ (layout : Layout) where
@@ -68,6 +68,9 @@ module _ (layout : Layout) where
 
   pub words_length : (p : Program) (image : Image) → IsCodeOf layout p image → length image.words ≡ length (code_of layout p)
   words_length p image pi = words-many (code_of layout p) image.words pi.is_image.words
+
+  pub begins_length : (p : Program) (image : Image) → IsCodeOf layout p image → length image.begins ≡ length (code_of layout p)
+  begins_length p image pi = ap length pi.is_image.begins ∙ length-map (program_words layout p) (λ w. w.begins) ∙ program-length layout p ∙ sym (code-length layout p)
 
   word-decoded : (is : List Ins) (ws : List ℕ) (n : ℕ) (i : Ins) → AreWords is ws → slice_get is n ≡ Some i → (word : ℕ) × (slice_get ws n ≡ Some word) × IsRow i word
   word-decoded [] ws n i are there = cc

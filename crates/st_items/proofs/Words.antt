@@ -208,6 +208,17 @@ module _ (layout : Layout) where
   all-length p address (g ∷ gs) =
       joined-length (resolved_words layout p address 0 (function_words layout g)) (resolved_from layout p (address + 4 * function_size layout g) gs) _ _ (function-resolved p address g) (all-length p (address + 4 * function_size layout g) gs)
 
+  all-words-length : (fs : List ProgramFunction) → length (words_of_all layout fs) ≡ functions_size layout fs
+  all-words-length [] = refl
+  all-words-length (f ∷ fs) =
+      let more = all-words-length fs in
+      let first = function-length f in
+      length-append (function_words layout f) (words_of_all layout fs) ∙ (omega (arith, more, first))
+
+  pub program-length : (p : Program) → length (program_words layout p) ≡ functions_size layout p.functions
+  unfolding program_words
+  program-length p = all-words-length p.functions
+
   pub code-length : (p : Program) → length (code_of layout p) ≡ functions_size layout p.functions
   unfolding code_of
   code-length p = all-length p code_start p.functions

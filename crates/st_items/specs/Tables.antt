@@ -1,6 +1,6 @@
--- What a run keeps of an image, by words: its instructions, decoded once (instructions_of), and at each fork's first jump the register of its handle
--- (handles_of).
-use Rattle.std.specs.Prelude.{ℕ, ◌<◌, ◌≤◌, List, [], ◌∷◌, slice_set, map}
+-- What a run keeps of an image, by words: its instructions, decoded once (instructions_of), whether an item begins with each (begins_of), and at each
+-- fork's first jump the register of its handle (handles_of).
+use Rattle.std.specs.Prelude.{ℕ, ◌<◌, ◌≤◌, Bool, List, [], ◌∷◌, slice_set, map}
 use Rattle.st_base.specs.declared.reg.Reg.{Reg}
 use Rattle.st_base.specs.declared.image.ForkRow.{ForkRow}
 use Rattle.st_base.specs.declared.image.Image.{Image}
@@ -14,6 +14,10 @@ use Rattle.st_items.specs.Code.{word_index}
 -- the instructions of a table
 abbrev pub instructions_of : List Decoded → List Ins
 instructions_of table = map (λ s. s.ins) table
+
+-- and of each whether an item begins with it
+abbrev pub begins_of : List Decoded → List Bool
+begins_of table = map (λ s. s.begins) table
 
 -- a table by words, with the register of each fork's handle at its first jump
 abbrev pub handles_of : List ForkRow → List Reg → List Reg

@@ -8,16 +8,14 @@ ghost use Rattle.st_model.specs.declared.code.Layout.{Layout};
 ghost use Rattle.st_model.specs.Layout.{AreWords, IsCodeOf, code_of};
 ghost use Rattle.st_items.specs.Code.{word_index};
 ghost use Rattle.st_items.specs.Rows.{AreAscending, row_behind};
-ghost use Rattle.st_items.specs.Tables.{AreInCode, HasCodeOf, handles_of, instructions_of};
+ghost use Rattle.st_items.specs.Tables.{AreInCode, HasCodeOf, begins_of, handles_of, instructions_of};
 
 use st_base::image::{ForkRow, FrameRow, Image};
+use st_base::map::CODE_START;
 use st_base::reg::Reg;
 use st_rv::code::decode;
 use st_step::Decoded;
 use std::alloc::{AllocError, Global};
-
-/// Where the code begins.
-const CODE_START: u32 = 0x1_0000;
 
 /// The word of an address, counted from the first.
 pub fn word_index(address: u32) -> usize
@@ -27,17 +25,19 @@ pub fn word_index(address: u32) -> usize
     ((address - CODE_START) / 4) as usize
 }
 
-/// The instructions of words, decoded.
-fn decoded(alloc: Global, words: &[u32]) -> Result<Vec<Decoded>, AllocError>
-    requires { ∥ ((instructions : List Ins) × AreWords instructions words.now) ∥₁ }
-    ensures { IfOk result (λ found. (instructions : List Ins) → AreWords instructions words.now → instructions_of found.items ≡ instructions) }
+/// The instructions of words, decoded, each with the mark that stands at its place.
+fn decoded(alloc: Global, words: &[u32], begins: &[bool]) -> Result<Vec<Decoded>, AllocError>
+    requires words { ∥ ((instructions : List Ins) × AreWords instructions words.now) ∥₁ }
+    requires begins { length begins.now ≡ length words.now }
+    ensures instructions { IfOk result (λ found. (instructions : List Ins) → AreWords instructions words.now → instructions_of found.items ≡ instructions) }
+    ensures begins { IfOk result (λ found. begins_of found.items ≡ begins.now) }
 {
     let mut found = Vec::with_capacity(alloc, words.len())?;
-    for word in words {
-        let Some(instruction) = decode(*word) else {
+    for at in 0..words.len() {
+        let Some(instruction) = decode(words[at]) else {
             unreachable!()
         };
-        found.push(Decoded::of(instruction))?;
+        found.push(Decoded::of(instruction, begins[at]))?;
     }
     Ok(found)
 }
@@ -54,7 +54,7 @@ fn handles(alloc: Global, forks: &[ForkRow], count: usize) -> Result<Vec<Reg>, A
     Ok(table)
 }
 
-/// The instructions of an image, and for the first jump of each fork the register of its handle, both by words.
+/// The instructions of an image, each with whether an item begins with it, and for the first jump of each fork the register of its handle, both by words.
 #[derive(Drop)]
 pub struct Code {
     pub instructions: Vec<Decoded>,
@@ -66,9 +66,10 @@ impl Code {
     pub fn of(alloc: Global, image: &Image) -> Result<Code, AllocError>
         requires { ∥ HasCodeOf image.now ∥₁ }
         ensures instructions { IfOk result (λ code. (layout : Layout) → (p : Program) → IsCodeOf layout p image.now → instructions_of code.instructions.items ≡ code_of layout p) }
+        ensures begins { IfOk result (λ code. begins_of code.instructions.items ≡ image.now.begins) }
         ensures handles { IfOk result (λ code. code.handles.items ≡ handles_of image.now.forks (replicate (length image.now.words) Zero)) }
     {
-        let instructions = decoded(alloc, image.words.as_slice())?;
+        let instructions = decoded(alloc, image.words.as_slice(), image.begins.as_slice())?;
         let handles = handles(alloc, image.forks.as_slice(), image.words.as_slice().len())?;
         Ok(Code {
             instructions,
