@@ -12,8 +12,6 @@ mod lines;
 mod places;
 mod reader;
 mod statements;
-#[cfg(test)]
-mod tests;
 mod unit;
 mod whole;
 

@@ -26,6 +26,4 @@ pub mod path;
 pub mod reg;
 pub mod registers;
 pub mod slots;
-#[cfg(test)]
-mod tests;
 pub mod thread;

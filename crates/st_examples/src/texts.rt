@@ -1,111 +1,135 @@
-//! Texts, their first faults, and units that are printed and read again.
-use crate::programs::{EMPTY, FIB, PUT, QUEENS, SMALL};
-use st_asm::{AsmError, Unit, read_unit};
-use st_print::unit_text;
+//! Texts with names, and the inputs that are written with them.
 use std::alloc::{AllocError, Global};
-use std::test::Fail;
 
-/// What reading these texts comes to: the canonical text of their unit, or their fault.
-fn read(alloc: Global, texts: &[Vec<u8>]) -> Result<Vec<u8>, AllocError> {
-    if texts.is_empty() || texts.len() > 64 {
-        return Ok(Vec::new(alloc));
-    }
-    match read_unit(alloc, texts) {
-        Ok(unit) => printed(alloc, &unit),
-        Err(AsmError::Fault(fault)) => {
-            let told = format!(in alloc;
-                "{}:{}: {}",
-                fault.line.file,
-                fault.line.line,
-                fault.kind.text()
-            )?;
-            Vec::from_slice(alloc, told.as_bytes())
+/// Texts by their names.
+#[derive(Drop)]
+pub struct Texts {
+    alloc: Global,
+    named: Vec<(String, Vec<u8>)>,
+}
+
+impl Texts {
+    pub fn new(alloc: Global) -> Texts {
+        Texts {
+            alloc,
+            named: Vec::new(alloc),
         }
-        Err(AsmError::OutOfMemory) => Err(AllocError),
+    }
+
+    pub fn add(&mut self, name: &str, text: &[u8]) -> Result<(), AllocError> {
+        let text = Vec::from_slice(self.alloc, text)?;
+        self.named
+            .push((String::from_str(self.alloc, name)?, text))?;
+        Ok(())
+    }
+
+    /// The text of this name; `?` where there is none.
+    fn find(&self, name: &str) -> &[u8] {
+        for (known, text) in &self.named {
+            if known.as_str() == name {
+                return text.as_slice();
+            }
+        }
+        b"?"
     }
 }
 
-fn printed(alloc: Global, unit: &Unit) -> Result<Vec<u8>, AllocError> {
-    unit_text(alloc, unit)
+/// Adds a number in six digits.
+fn push_digits(out: &mut Vec<u8>, number: u32) -> Result<(), AllocError> {
+    for place in [100_000, 10_000, 1_000, 100, 10, 1u32] {
+        out.push((number / place % 10) as u8 + b'0')?;
+    }
+    Ok(())
 }
 
-fn one(alloc: Global, text: &[u8]) -> Result<Vec<u8>, AllocError> {
-    let mut texts = Vec::new(alloc);
-    texts.push(Vec::from_slice(alloc, text)?)?;
-    read(alloc, texts.as_slice())
+/// The byte that stands behind a backslash.
+fn escape(byte: u8) -> u8 {
+    match byte {
+        b'n' => b'\n',
+        b't' => b'\t',
+        b'r' => b'\r',
+        _ => byte,
+    }
 }
 
-fn two(alloc: Global, first: &str, second: &str) -> Result<Vec<u8>, AllocError> {
-    let mut texts = Vec::new(alloc);
-    texts.push(Vec::from_slice(alloc, first.as_bytes())?)?;
-    texts.push(Vec::from_slice(alloc, second.as_bytes())?)?;
-    read(alloc, texts.as_slice())
+/// Adds a piece: a byte behind a backslash is an escape, and `%` is the number.
+fn push_piece(out: &mut Vec<u8>, piece: &str, number: u32) -> Result<(), AllocError> {
+    let mut is_escaped = false;
+    for byte in piece.as_bytes() {
+        if is_escaped {
+            out.push(escape(*byte))?;
+            is_escaped = false;
+        } else if *byte == b'\\' {
+            is_escaped = true;
+        } else if *byte == b'%' {
+            push_digits(out, number)?;
+        } else {
+            out.push(*byte)?;
+        }
+    }
+    Ok(())
 }
 
-/// `EMPTY` with its line 6 replaced.
-fn with_line_6(alloc: Global, line: &str) -> Result<String, AllocError> {
+/// Adds a piece in which `<NAME>` is the text of that name.
+fn push_named(out: &mut Vec<u8>, texts: &Texts, piece: &str) -> Result<(), AllocError> {
+    for part in piece.split('<') {
+        match part.split_once('>') {
+            Some((name, rest)) => {
+                out.extend_from_slice(texts.find(name))?;
+                push_piece(out, rest, 0)?;
+            }
+            None => push_piece(out, part, 0)?,
+        }
+    }
+    Ok(())
+}
+
+/// Adds the piece of `COUNT*PIECE` so often.
+fn push_repeated(out: &mut Vec<u8>, repeated: &str) -> Result<(), AllocError> {
+    let Some((count, piece)) = repeated.split_once('*') else {
+        return Ok(());
+    };
+    let count: u32 = count.parse().unwrap_or(0);
+    for number in 0..count {
+        push_piece(out, piece, number)?;
+    }
+    Ok(())
+}
+
+/// The input that is written so: `{COUNT*PIECE}` repeats a piece, in which `%` is the number of the repetition, `<NAME>` is a text, and
+/// `\n`, `\t`, `\r` and `\\` are escapes.
+pub fn expanded(alloc: Global, texts: &Texts, written: &str) -> Result<Vec<u8>, AllocError> {
+    let mut out = Vec::new(alloc);
+    for part in written.split('{') {
+        match part.split_once('}') {
+            Some((repeated, rest)) => {
+                push_repeated(&mut out, repeated)?;
+                push_named(&mut out, texts, rest)?;
+            }
+            None => push_named(&mut out, texts, part)?,
+        }
+    }
+    Ok(out)
+}
+
+/// Bytes as text, a line end as `\n`.
+pub fn escaped(alloc: Global, bytes: &[u8]) -> Result<String, AllocError> {
     let mut text = String::new(alloc);
-    let mut number = 0u32;
-    for old in EMPTY.lines() {
-        number = number.saturating_add(1);
-        text.push_str(if number == 6 { line } else { old })?;
-        text.push_str("\n")?;
+    for byte in bytes {
+        if *byte == b'\n' {
+            text.push_str("\\n")?;
+        } else {
+            text.push(char::from(*byte))?;
+        }
     }
     Ok(text)
 }
 
-#[test]
-fn tells_the_fault_of_a_line(rt: HostRuntime) -> Result<(), Fail> {
-    let alloc = rt.alloc();
-    let cases = [
-        ("    addi a0,a0,2048", "1:6: E5 ImmRange"),
-        ("    addi a0,a0,", "1:6: E4 BadOperand"),
-        ("    frobs a0", "1:6: E3 UnknownName"),
-        ("    .st_args 1,0", "1:6: E2 BadLine"),
-        ("main:", "1:6: E6 DoubleLabel"),
-        ("    j away", "1:6: E7 NoLabel"),
-    ];
-    for (line, told) in cases {
-        let text = with_line_6(alloc, line)?;
-        assert!(rt;
-            one(alloc, text.as_bytes())?.as_slice() == told.as_bytes(),
-            "{line}"
-        );
+/// The texts of files, one for each part between bars.
+pub fn files_of(alloc: Global, parts: &[u8]) -> Result<Vec<Vec<u8>>, AllocError> {
+    let mut texts = Vec::new(alloc);
+    for part in parts.split(|byte| *byte == b'|') {
+        texts.push(Vec::from_slice(alloc, part)?)?;
     }
-    Ok(())
-}
-
-#[test]
-fn prints_the_least_program(rt: HostRuntime) -> Result<(), Fail> {
-    let alloc = rt.alloc();
-    let canonical =
-        "main:\n    .st_args 1,0\n    .st_handles 0\n    addi sp,sp,-16\n    sd ra,8(sp)\n    sd s0,0(sp)\n    addi s0,sp,16\n    ld ra,8(sp)\n    ld s0,0(sp)\n    addi sp,sp,16\n    ret\n";
-    assert!(rt; one(alloc, EMPTY.as_bytes())?.as_slice() == canonical.as_bytes());
-    // a last line without its end
-    let bytes = EMPTY.as_bytes();
-    let cut = &bytes[..bytes.len().saturating_sub(1)];
-    assert!(rt; one(alloc, cut)?.as_slice() == canonical.as_bytes());
-    Ok(())
-}
-
-#[test]
-fn reads_what_it_printed(rt: HostRuntime) -> Result<(), Fail> {
-    let alloc = rt.alloc();
-    for program in SMALL {
-        let text = one(alloc, program.as_bytes())?;
-        assert!(rt; text.starts_with(b"main:\n    .st_args "), "{program}");
-        assert!(rt;
-            one(alloc, text.as_slice())?.as_slice() == text.as_slice(),
-            "{program}"
-        );
-    }
-    for program in [FIB, QUEENS] {
-        let text = two(alloc, program, PUT)?;
-        assert!(rt; text.starts_with(b"main:\n    .st_args "), "{program}");
-        assert!(rt;
-            one(alloc, text.as_slice())?.as_slice() == text.as_slice(),
-            "{program}"
-        );
-    }
-    Ok(())
+    Ok(texts)
 }

@@ -23,8 +23,6 @@ mod pseudos;
 mod reader;
 mod rows;
 mod source;
-#[cfg(test)]
-mod tests;
 mod text;
 mod words;
 

@@ -10,8 +10,6 @@ mod output;
 mod pieces;
 mod spots;
 mod telling;
-#[cfg(test)]
-mod tests;
 
 pub use canonical::unit_text;
 pub use fault::Fault;

@@ -67,6 +67,3 @@ pub fn one_word(i: Ins)
 {
     let _word = encode(i);
 }
-
-#[cfg(test)]
-mod tests;

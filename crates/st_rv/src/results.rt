@@ -292,6 +292,3 @@ pub fn extended(op: Op, value: u64) -> u64
         _ => value,
     }
 }
-
-#[cfg(test)]
-mod tests;

@@ -1,0 +1,32 @@
+main:
+    addi sp,sp,-32
+    sd ra,24(sp)
+    sd s0,16(sp)
+    sd s8,8(sp)
+    addi s0,sp,32
+    .st_fork s8
+    call slow
+    .st_fork s8
+    call bad
+    li a0,0
+    ld ra,24(sp)
+    ld s0,16(sp)
+    ld s8,8(sp)
+    addi sp,sp,32
+    ret
+slow:
+    addi sp,sp,-16
+    sd ra,8(sp)
+    sd s0,0(sp)
+    addi s0,sp,16
+    li t0,1000
+.L0:
+    addi t0,t0,-1
+    bnez t0,.L0
+    ebreak
+bad:
+    addi sp,sp,-16
+    sd ra,8(sp)
+    sd s0,0(sp)
+    addi s0,sp,16
+    ebreak
