@@ -51,7 +51,8 @@ pub(crate) fn saved_of(alloc: Global, function: &ProgramFunction) -> Result<Vec<
     ensures value { IfOk result (λ saved. saved.items ≡ saved_of function.now) }
     ensures few { IfOk result (λ saved. length saved.items ≤ 11) }
 {
-    saved_among(alloc, function.saved, SAVEABLE.as_slice())
+    let saved = saved_among(alloc, function.saved, SAVEABLE.as_slice())?;
+    Ok(saved)
 }
 
 /// How many registers a function saves.
