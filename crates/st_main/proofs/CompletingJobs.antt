@@ -1,8 +1,10 @@
 -- That the program does the job that its words ask for where nothing stands in its way (completes-words): words ask for one job at most
 -- (one-job), and its command's answer completes it.
-use Rattle.std.proofs.Common.{◌≡◌, ℕ, List, Some, ap, sym, ◌∙◌, subst, inl, inr}
+use Rattle.std.proofs.Common.{◌≡◌, ℕ, Bool, true, false, List, [], ◌∷◌, Some, ap, sym, ◌∙◌, subst, inl, inr}
+use Rattle.std.specs.Prelude.{codes}
+use Rattle.std.specs.Str.{bytes_eq}
 use Rattle.st_model.specs.Bounded.{Bounds}
-use Rattle.st_jobs.specs.Commands.{Asked, job_of}
+use Rattle.st_jobs.specs.Commands.{Asked, Setting, job_of}
 use Rattle.st_print.specs.declared.fault.Fault.TheVariants as faults
 use Rattle.st_main.specs.declared.exit.Exit.{Exit}
 use Rattle.st_main.specs.declared.exit.Exit.TheVariants.{OutOfMemory}
@@ -13,23 +15,42 @@ use Rattle.st_main.proofs.Completing.{completes-check, completes-post, completes
 
 -- ---- what is asked tells the job
 
+-- what settings say of limits
+abbrev values-behind : List Setting → List Setting
+values-behind [] = []
+values-behind (s ∷ ss) = ss
+
+abbrev first-value : List Setting → ℕ
+first-value [] = 0
+first-value (s ∷ ss) = s.value
+
+abbrev bounds-in : List Setting → Bounds
+bounds-in ss = record { steps = first-value (values-behind (values-behind (values-behind ss))); cells = first-value (values-behind (values-behind ss)); stack = first-value (values-behind ss) }
+
+-- which command is asked for
+abbrev is-command : List ℕ → Asked → Bool
+is-command name a = bytes_eq a.command name
+
+no-command : true ≡ false → ⊥
+no-command e = cc
+
 one-asked : (a b : Built) → asked_by a ≡ asked_by b → a ≡ b
-one-asked (Runs (record { steps = s; cells = c; stack = k }) f) (Runs (record { steps = s'; cells = c'; stack = k' }) f') e = cc
-one-asked (Runs b f) (Plains b' f') e = let command = ap (λ (a : Asked). a.command) e in cc
-one-asked (Runs b f) (Checks f') e = let command = ap (λ (a : Asked). a.command) e in cc
-one-asked (Runs b f) (Posts f') e = let command = ap (λ (a : Asked). a.command) e in cc
-one-asked (Plains b f) (Runs b' f') e = let command = ap (λ (a : Asked). a.command) e in cc
-one-asked (Plains b f) (Plains b' f') e = cc
-one-asked (Plains b f) (Checks f') e = let command = ap (λ (a : Asked). a.command) e in cc
-one-asked (Plains b f) (Posts f') e = let command = ap (λ (a : Asked). a.command) e in cc
-one-asked (Checks f) (Runs b' f') e = let command = ap (λ (a : Asked). a.command) e in cc
-one-asked (Checks f) (Plains b' f') e = let command = ap (λ (a : Asked). a.command) e in cc
+one-asked (Runs b f) (Runs b' f') e = ap (λ (a : Asked). Runs (bounds-in a.settings) a.files) e
+one-asked (Plains b f) (Plains b' f') e = ap (λ (a : Asked). Plains (bounds-in a.settings) a.files) e
 one-asked (Checks f) (Checks f') e = ap (λ (a : Asked). Checks a.files) e
-one-asked (Checks f) (Posts f') e = let command = ap (λ (a : Asked). a.command) e in cc
-one-asked (Posts f) (Runs b' f') e = let command = ap (λ (a : Asked). a.command) e in cc
-one-asked (Posts f) (Plains b' f') e = let command = ap (λ (a : Asked). a.command) e in cc
-one-asked (Posts f) (Checks f') e = let command = ap (λ (a : Asked). a.command) e in cc
 one-asked (Posts f) (Posts f') e = ap (λ (a : Asked). Posts a.files) e
+one-asked (Runs b f) (Plains b' f') e = absurd (no-command (ap (is-command (codes "run")) e))
+one-asked (Runs b f) (Checks f') e = absurd (no-command (ap (is-command (codes "run")) e))
+one-asked (Runs b f) (Posts f') e = absurd (no-command (ap (is-command (codes "run")) e))
+one-asked (Plains b f) (Runs b' f') e = absurd (no-command (ap (is-command (codes "plain")) e))
+one-asked (Plains b f) (Checks f') e = absurd (no-command (ap (is-command (codes "plain")) e))
+one-asked (Plains b f) (Posts f') e = absurd (no-command (ap (is-command (codes "plain")) e))
+one-asked (Checks f) (Runs b' f') e = absurd (no-command (ap (is-command (codes "check")) e))
+one-asked (Checks f) (Plains b' f') e = absurd (no-command (ap (is-command (codes "check")) e))
+one-asked (Checks f) (Posts f') e = absurd (no-command (ap (is-command (codes "check")) e))
+one-asked (Posts f) (Runs b' f') e = absurd (no-command (ap (is-command (codes "post")) e))
+one-asked (Posts f) (Plains b' f') e = absurd (no-command (ap (is-command (codes "post")) e))
+one-asked (Posts f) (Checks f') e = absurd (no-command (ap (is-command (codes "post")) e))
 
 one-job : (words : List (List ℕ)) (a b : Built) → AsksFor words a → AsksFor words b → a ≡ b
 one-job words a b p q = let same : Some (asked_by a) ≡ Some (asked_by b) = sym p ∙ q in one-asked a b cc
