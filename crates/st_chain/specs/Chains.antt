@@ -1,0 +1,49 @@
+-- Chains: a thread that doesn't run, by its place, its newest frame and s1 to s11, over the words that go with it. Read Walks, which says that a
+-- chain stands for the thread that goes with it; its parts are words_ahead, WaitsFor and KeepsFile, and WalksTo has it of any words, names and thread.
+use Rattle.std.specs.Prelude.{◌≡◌, ℕ, ◌-◌, ◌≤◌, ◌==◌, Bool, true, List, Option, Some, None, slice_index, slice_index_or, if◌then◌else◌}
+use Rattle.st_base.specs.declared.chain.Chain.{Chain}
+use Rattle.st_base.specs.declared.chain.Frame.{Frame}
+use Rattle.st_base.specs.declared.chain.Waiting.{Waiting}
+use Rattle.st_base.specs.declared.chain.Waiting.TheVariants as waits
+use Rattle.st_base.specs.declared.thread.Held.{Held}
+use Rattle.st_base.specs.declared.thread.Held.TheVariants.{Number, Future, Counter}
+use Rattle.st_base.specs.declared.thread.Thread.{Thread}
+use Rattle.st_model.specs.declared.program.Program.{Program}
+use Rattle.st_model.specs.Effect.{File}
+use Rattle.st_words.specs.declared.view.Cargo.{Cargo}
+use Rattle.st_step.specs.Frames.{Naming, IsHeldAs, is_kept}
+use Rattle.st_chain.specs.Walk.{word_in, is_held, named_by, FromNewest}
+use Rattle.st_chain.specs.Threads.{AtEnd}
+
+-- what a chain's registers have, by their numbers: s1 is x9, s2 to s11 are x18 to x27
+abbrev pub saved_value : List ℕ → ℕ → ℕ
+saved_value saved x = if x == 0 then 0 else (if x == 9 then slice_index saved 0 else slice_index saved (x - 17))
+
+-- how many words behind its next item's first a thread stands; one that hasn't begun has no frame
+abbrev pub words_ahead : Waiting → ℕ → Type 0
+words_ahead (waits.Touch cell) ahead = ahead ≡ 1
+words_ahead (waits.Join cell least) ahead = ahead ≡ 1
+words_ahead waits.Trapped ahead = ahead ≤ 1
+words_ahead waits.Ready ahead = ahead ≡ 0
+words_ahead waits.Start ahead = ⊥
+
+-- what it waits for is named in the thread's a6, and the least count of a join is in its a0
+abbrev pub WaitsFor : Naming → Thread → Waiting → Type 0
+WaitsFor names thread (waits.Touch cell) = (path : List ℕ) × (slice_index_or thread.registers 16 None ≡ Some (Future path)) × names (Future path) cell
+WaitsFor names thread (waits.Join cell least) =
+    (maker : List ℕ) × (number : ℕ) × (slice_index_or thread.registers 16 None ≡ Some (Counter maker number)) × names (Counter maker number) cell × (slice_index_or thread.registers 10 None ≡ Some (Number least))
+WaitsFor names thread _ = Prim.Unit
+
+-- of the thread's registers only those that a call keeps are read
+abbrev pub KeepsFile : Naming → File → (ℕ → ℕ) → Type 0
+KeepsFile names file value = (x : ℕ) (held : Held) → is_kept x ≡ true → slice_index_or file x None ≡ Some held → IsHeldAs names held (value x)
+
+-- a chain with these words and names stands for this thread, whose frames are these
+abbrev pub WalksTo : Program → Naming → List (Option ℕ) → Chain → Thread → List Frame → Type 0
+WalksTo p names held chain thread frames =
+    (ahead : ℕ) × words_ahead chain.wait ahead × WaitsFor names thread chain.wait × KeepsFile names thread.registers (saved_value chain.saved)
+    × FromNewest p names (is_held held) AtEnd ahead chain.pc chain.fp (word_in held) (saved_value chain.saved) thread.activations frames
+
+-- a chain stands for the thread that goes with it
+abbrev pub Walks : Program → Chain → Cargo → Type 0
+Walks p chain cargo = WalksTo p (named_by cargo.names) cargo.words chain cargo.carried.known.thread cargo.frames

@@ -1,0 +1,4 @@
+pub mod Walk
+pub mod Threads
+pub mod Chains
+pub mod Seen

@@ -1,0 +1,2 @@
+//! Threads in memory.
+#![tactic(auto)]
