@@ -2,3 +2,4 @@ pub mod Walk
 pub mod Threads
 pub mod Chains
 pub mod Seen
+pub mod Logical

@@ -1,2 +1,4 @@
 //! Threads in memory.
 #![tactic(auto)]
+
+pub mod logical;
