@@ -1,5 +1,5 @@
 -- Chains: a thread that doesn't run, by its place, its newest frame and s1 to s11, over the words that go with it. Read Walks, which says that a
--- chain stands for the thread that goes with it; its parts are words_ahead, WaitsFor and KeepsFile, and WalksTo has it of any words, names and thread.
+-- chain stands for the thread that goes with it. Its parts are words_ahead, WaitsFor and KeepsFile; StandsFor says the same of a machine's registers.
 use Rattle.std.specs.Prelude.{◌≡◌, ℕ, ◌-◌, ◌≤◌, ◌==◌, Bool, true, List, Option, Some, None, slice_index, slice_index_or, if◌then◌else◌}
 use Rattle.st_base.specs.declared.chain.Chain.{Chain}
 use Rattle.st_base.specs.declared.chain.Frame.{Frame}
@@ -38,12 +38,12 @@ WaitsFor names thread _ = Prim.Unit
 abbrev pub KeepsFile : Naming → File → (ℕ → ℕ) → Type 0
 KeepsFile names file value = (x : ℕ) (held : Held) → is_kept x ≡ true → slice_index_or file x None ≡ Some held → IsHeldAs names held (value x)
 
--- a chain with these words and names stands for this thread, whose frames are these
-abbrev pub WalksTo : Program → Naming → List (Option ℕ) → Chain → Thread → List Frame → Type 0
-WalksTo p names held chain thread frames =
-    (ahead : ℕ) × words_ahead chain.wait ahead × WaitsFor names thread chain.wait × KeepsFile names thread.registers (saved_value chain.saved)
-    × FromNewest p names (is_held held) AtEnd ahead chain.pc chain.fp (word_in held) (saved_value chain.saved) thread.activations frames
+-- a place, a frame pointer and registers stand for a lone thread that waits so, whose frames are these, over these words and names
+abbrev pub StandsFor : Program → List (Held × ℕ) → List (Option ℕ) → Waiting → ℕ → ℕ → (ℕ → ℕ) → Thread → List Frame → Type 0
+StandsFor p names held wait pc fp value thread frames =
+    (ahead : ℕ) × words_ahead wait ahead × WaitsFor (named_by names) thread wait × KeepsFile (named_by names) thread.registers value
+    × FromNewest p (named_by names) (is_held held) AtEnd ahead pc fp (word_in held) value thread.activations frames
 
 -- a chain stands for the thread that goes with it
 abbrev pub Walks : Program → Chain → Cargo → Type 0
-Walks p chain cargo = WalksTo p (named_by cargo.names) cargo.words chain cargo.carried.known.thread cargo.frames
+Walks p chain cargo = StandsFor p cargo.names cargo.words chain.wait chain.pc chain.fp (saved_value chain.saved) cargo.carried.known.thread cargo.frames

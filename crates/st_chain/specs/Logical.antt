@@ -1,15 +1,16 @@
 -- The threads on one worker, as notes from the bottom thread to the top one. Contracts see them as Threads; IsPopped says what a pop takes out and leaves,
 -- restarted where a machine goes on with a chain, and IsRestarted what that is register by register.
-use Rattle.std.specs.Prelude.{◌≡◌, ◌≢◌, ℕ, ◌+◌, ◌-◌, ◌≤◌, Bool, true, List, [], ◌∷◌, ◌++◌, length, Option, Some, None, slice_index}
+use Rattle.std.specs.Prelude.{◌≡◌, ◌≢◌, ◌⊎◌, ℕ, ◌+◌, ◌<◌, ◌≤◌, List, [], ◌∷◌, ◌++◌, length, Option, Some, None, slice_index}
 use Rattle.st_base.specs.declared.chain.Chain.{Chain}
 use Rattle.st_base.specs.declared.chain.Note.{Note}
 use Rattle.st_base.specs.declared.reg.Reg.{Reg}
 use Rattle.st_base.specs.declared.reg.Reg.TheVariants as registers
 use Rattle.st_model.specs.Layout.{saveable}
 use Rattle.st_step.specs.declared.state.State.{State}
-use Rattle.st_step.specs.Frames.{value_in, is_kept}
+use Rattle.st_step.specs.Frames.{value_in}
 use Rattle.st_step.specs.Moves.{register, written, at_place}
 use Rattle.st_chain.specs.Chains.{saved_value}
+use Rattle.st_chain.specs.Seen.{SameKept}
 
 -- the notes, the bottom thread's first, and how many there is room for
 pub record Threads : Type 0 where
@@ -42,10 +43,9 @@ restarted c m = at_place c.pc (with_values 0 saveable c.saved (written m registe
 pub record IsRestarted (c : Chain) (m m' : State) : Type 0 where
   pub pc : m'.pc ≡ c.pc
   pub fp : register m' registers.S0 ≡ c.fp
-  pub saved : (x : ℕ) → is_kept x ≡ true → x ≢ 0 → value_in m' x ≡ saved_value c.saved x
-  pub others : (x : ℕ) → is_kept x ≢ true → x ≢ 8 → value_in m' x ≡ value_in m x
-  pub origin : value_in m' 0 ≡ value_in m 0
+  pub saved : SameKept (saved_value c.saved) (value_in m')
+  pub others : (x : ℕ) → x ≢ 8 → x ≢ 9 → (x < 18) ⊎ (28 ≤ x) → value_in m' x ≡ value_in m x
   pub count : length m'.registers ≡ length m.registers
-  pub whole : m'.half ≡ None
   pub lo : m'.lo ≡ m.lo
   pub hi : m'.hi ≡ m.hi
+  pub whole : m'.half ≡ None
