@@ -1,3 +1,4 @@
 pub mod Frames
 pub mod Outside
 pub mod Restarting
+pub mod Cutting
