@@ -3,3 +3,5 @@ pub mod Threads
 pub mod Chains
 pub mod Seen
 pub mod Logical
+pub mod Copying
+pub mod Laws
