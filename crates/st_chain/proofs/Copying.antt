@@ -1,6 +1,6 @@
 -- An instruction of a copy on the machine: its step of the board may be asked (may_step), and the copy leads on (copied_on). A copy begins at the first
 -- word behind a function's items (copy_begins), and leads from a thread's newest activation to the older one (copy_leads).
-use Rattle.std.proofs.Common.{◌≡◌, ◌⊎◌, inl, inr, ℕ, zero, suc, ◌+◌, ◌-◌, ◌*◌, ◌^◌, ◌<◌, ◌≤◌, Bool, true, false, List, [], ◌∷◌, length, take, Option, Some, None, refl, ap, sym, ◌∙◌, subst, arith, if◌then◌else◌}
+use Rattle.std.proofs.Common.{◌≡◌, ◌⊎◌, inl, inr, ℕ, zero, suc, ◌+◌, ◌-◌, ◌*◌, ◌^◌, ◌<◌, Bool, true, false, List, ◌∷◌, length, take, Option, Some, None, refl, ap, sym, ◌∙◌, subst, arith, if◌then◌else◌}
 use Rattle.std.specs.Prelude.{◌==◌, nat_lt}
 use Rattle.st_base.specs.declared.chain.Frame.{Frame}
 use Rattle.st_base.specs.declared.image.Image.{Image}
@@ -18,13 +18,13 @@ use Rattle.st_model.specs.declared.program.Program.{Program}
 use Rattle.st_model.specs.declared.program.ProgramFunction.{ProgramFunction}
 use Rattle.st_model.specs.Accepted.{IsAccepted}
 use Rattle.st_model.specs.Effect.{File}
-use Rattle.st_model.specs.Layout.{IsCodeOf, saved_of, items_size, functions_size}
+use Rattle.st_model.specs.Layout.{saved_of, items_size, functions_size}
 use Rattle.st_model.specs.Memory.{Data}
 use Rattle.st_words.specs.Steps.{Step, StackLoad, Answer, kept}
 use Rattle.st_step.specs.declared.state.State.{State}
 use Rattle.st_step.specs.declared.machine.StepEnd.{StepEnd}
-use Rattle.st_step.specs.Moves.{Move, Goes, Reads, Writes, Marks, Stops, Outside, move_of, MayMove, MayStep, Fetches, Moves, Stepped, is_entry, lacks_room, is_stack, in_one_word, address_of, data_when, jump_move, register}
-use Rattle.st_step.specs.Runs.{Situation, IsAmong, IsReturn, Path, RunsStretch, moved, moved_by, where_held, return_word}
+use Rattle.st_step.specs.Moves.{Move, Goes, Reads, Writes, Marks, Stops, Outside, move_of, MayMove, MayStep, Moves, Stepped, is_entry, lacks_room, is_stack, in_one_word, address_of, data_when, jump_move, register}
+use Rattle.st_step.specs.Runs.{Situation, IsReturn, Path, RunsStretch, moved, moved_by, where_held, return_word}
 use Rattle.st_step.specs.Frames.{Naming, ComesBack, address_in, value_in}
 use Rattle.st_items.specs.Body.{Context, Ends, IsOn, SeesOutside}
 use Rattle.st_items.specs.Code.{code_at, IsSized}
@@ -122,9 +122,14 @@ module _ {Board : Type 0} (made : Step → Answer → Board → Type 0) (old new
         inl (stays, subst (λ (k : State). RunsOn (over held k)) (sym same) (subst RunsOn (sym is_next) runs))
     by_move next (Reads q go) quiet e runs (ends, (n, was_made, same)) =
         let is_next = (held_some (is_held held q) _ next e).1 in
-        inr (q, n, was_made, λ told.
-        let value : word_in held q ≡ n = ap number_or told in
-        subst (λ (k : State). RunsOn (over held k)) (sym same) (subst (λ (v : ℕ). RunsOn (over held (go v))) value (subst RunsOn (sym is_next) runs)))
+        inr (
+          q,
+          n,
+          was_made,
+          λ told.
+              let value : word_in held q ≡ n = ap number_or told in
+              subst (λ (k : State). RunsOn (over held k)) (sym same) (subst (λ (v : ℕ). RunsOn (over held (go v))) value (subst RunsOn (sym is_next) runs)),
+        )
     by_move next (Writes q n m1) quiet e runs moves = absurd quiet
     by_move next (Marks q m1) quiet e runs moves = absurd quiet
     by_move next (Stops stop) quiet e runs moves = absurd (let never : ⊥ = cc in never)

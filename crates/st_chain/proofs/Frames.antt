@@ -1,9 +1,8 @@
 -- The frame lemma: threads in memory are read the same by words that agree in their frames, by more held words, by more names, and by registers of which
 -- those agree that a call keeps. Read Passes (from one context to another), below_same, newest_same and lower_same. For a frame apart
 -- from theirs: apart_same.
-use Rattle.std.proofs.Common.{◌≡◌, ◌⊎◌, inl, inr, ℕ, ◌+◌, ◌-◌, ◌*◌, ◌/◌, ◌%◌, ◌<◌, ◌≤◌, ◌==◌, ◌++◌, Bool, true, List, [], ◌∷◌, length, ap, subst, arith, if◌then◌else◌}
+use Rattle.std.proofs.Common.{◌≡◌, ◌⊎◌, inl, inr, ℕ, ◌+◌, ◌<◌, ◌≤◌, ◌==◌, ◌++◌, Bool, true, List, [], ◌∷◌, ap, subst, arith, if◌then◌else◌}
 use Rattle.st_base.specs.declared.chain.Frame.{Frame}
-use Rattle.st_base.specs.declared.reg.Reg.{Reg}
 use Rattle.st_base.specs.Reg.{reg_number}
 use Rattle.st_base.specs.declared.thread.Activation.{Activation}
 use Rattle.st_base.specs.declared.thread.ActivationKind.{ActivationKind}
@@ -16,15 +15,14 @@ use Rattle.st_model.specs.Layout.{saved_of}
 use Rattle.st_words.specs.declared.view.Known.{Known}
 use Rattle.st_words.specs.Steps.{place_of, Inside}
 use Rattle.st_step.specs.Runs.{return_word, caller_word}
-use Rattle.st_step.specs.Frames.{Naming, IsHeldAs, HasFile, HasSlots, HoldsKept, IsCaller, is_kept, with_saved_values}
+use Rattle.st_step.specs.Frames.{Naming, IsHeldAs, HasFile, HasSlots, HoldsKept, IsCaller, with_saved_values}
 use Rattle.st_step.proofs.SavedList.{saved_fit}
-use Rattle.st_items.specs.Body.{Context, Grows, IsFramed, IsFrameAt}
+use Rattle.st_items.specs.Body.{Context, Grows}
 use Rattle.st_items.proofs.FrameWords.{saved_agrees, slots_agree}
 use Rattle.st_items.proofs.Growing.{held_grows, slots_grow}
 use Rattle.st_items.proofs.ItemCode.{formed_of}
-use Rattle.st_stack.specs.Exported.{Apart}
 use Rattle.st_chain.specs.Walk.{LiesAt, IsActivation, Below, FromNewest}
-use Rattle.st_chain.specs.Threads.{AtEnd, Lower, HoldsOver, put_value}
+use Rattle.st_chain.specs.Threads.{AtEnd, Lower, put_value}
 use Rattle.st_chain.specs.Seen.{SameIn, AllSame, SameKept, joined, IsEven, AreApart}
 
 module _ (p : Program) (names names' : Naming) (grows : Grows names names') (holds holds' : ℕ → Bool) (word word' : ℕ → ℕ) (accepted : IsAccepted p) where

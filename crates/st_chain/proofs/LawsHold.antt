@@ -1,21 +1,16 @@
 -- The laws over words that are held and names hold: each is that of a lemma. A stored return word cuts a frame (stored_cut).
-use Rattle.std.proofs.Common.{◌≡◌, ◌≢◌, ◌⊎◌, inl, inr, ℕ, ◌+◌, ◌-◌, ◌/◌, ◌%◌, ◌≤◌, ◌<◌, Bool, true, false, List, [], ◌∷◌, length, Option, Some, None, is_some, zero, suc, slice_index_or, slice_set, refl, ap, sym, ◌∙◌, subst, arith}
-use Rattle.std.specs.List.{Contains}
+use Rattle.std.proofs.Common.{◌≡◌, ◌≢◌, ◌⊎◌, inl, inr, ℕ, ◌+◌, ◌<◌, true, List, [], ◌∷◌, length, Option, Some, None, is_some, zero, suc, slice_index_or, slice_set, refl, ap, sym, ◌∙◌, subst, arith}
 use Rattle.std.proofs.lemmas.List.{get_or-set_same, get_or-set_other}
 use Rattle.st_base.specs.declared.chain.Frame.{Frame}
-use Rattle.st_base.specs.declared.reg.Reg.TheVariants as registers
-use Rattle.st_base.specs.declared.thread.Held.{Held}
-use Rattle.st_model.specs.declared.program.ProgramFunction.{ProgramFunction}
 use Rattle.st_model.specs.Accepted.{HasFrame}
 use Rattle.st_words.specs.Steps.{kept}
 use Rattle.st_step.specs.Frames.{value_in}
-use Rattle.st_step.specs.Moves.{register}
 use Rattle.st_step.specs.Runs.{return_word}
 use Rattle.st_items.specs.Body.{SeesOutside}
 use Rattle.st_items.proofs.ItemCode.{formed_of}
 use Rattle.st_chain.specs.Walk.{word_in, is_held, number_or, named_by, Below}
 use Rattle.st_chain.specs.Threads.{AtEnd, Lower}
-use Rattle.st_chain.specs.Seen.{SameIn, AllSame, IsCut, IsEven}
+use Rattle.st_chain.specs.Seen.{AllSame, IsCut, IsEven}
 use Rattle.st_chain.specs.Chains.{StandsFor}
 use Rattle.st_chain.specs.Logical.{restarted}
 use Rattle.st_chain.specs.Laws.{StandsSame, LowerSame, OlderUnseen, ThreadCut, CopiesGive, Restarts, RestartStands}

@@ -15,7 +15,6 @@ use Rattle.st_base.specs.declared.thread.Thread.{Thread}
 use Rattle.st_model.specs.declared.program.Program.{Program}
 use Rattle.st_model.specs.Accepted.{IsAccepted}
 use Rattle.st_model.specs.Flow.{between}
-use Rattle.st_model.specs.Layout.{saveable}
 use Rattle.st_model.proofs.Places.{between_holds}
 use Rattle.st_step.specs.declared.state.State.{State}
 use Rattle.st_step.specs.Frames.{IsHeldAs, value_in, is_kept}
@@ -27,7 +26,7 @@ use Rattle.st_items.proofs.Growing.{held_grows}
 use Rattle.st_items.proofs.SavedRegisters.{not_zero, value-written_other, value-written_same}
 use Rattle.st_chain.specs.Walk.{word_in, is_held, named_by}
 use Rattle.st_chain.specs.Threads.{AtEnd}
-use Rattle.st_chain.specs.Chains.{saved_value, WaitsFor, KeepsFile, StandsFor}
+use Rattle.st_chain.specs.Chains.{saved_value, WaitsFor, StandsFor}
 use Rattle.st_chain.specs.Seen.{AllSame, SameKept}
 use Rattle.st_chain.specs.Logical.{with_values, restarted, IsRestarted}
 use Rattle.st_chain.proofs.Frames.{newest_same, end_same}

@@ -1,6 +1,6 @@
 -- Chains: a thread that doesn't run, by its place, its newest frame and s1 to s11, over the words that go with it. Read Walks, which says that a
 -- chain stands for the thread that goes with it. Its parts are words_ahead, WaitsFor and KeepsFile; StandsFor says the same of a machine's registers.
-use Rattle.std.specs.Prelude.{◌≡◌, ℕ, ◌-◌, ◌≤◌, ◌==◌, Bool, true, List, Option, Some, None, slice_index, slice_index_or, if◌then◌else◌}
+use Rattle.std.specs.Prelude.{◌≡◌, ℕ, ◌-◌, ◌≤◌, ◌==◌, true, List, Option, Some, None, slice_index, slice_index_or, if◌then◌else◌}
 use Rattle.st_base.specs.declared.chain.Chain.{Chain}
 use Rattle.st_base.specs.declared.chain.Frame.{Frame}
 use Rattle.st_base.specs.declared.chain.Waiting.{Waiting}

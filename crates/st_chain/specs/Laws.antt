@@ -2,7 +2,7 @@
 -- frames are read of a thread) and LowerSame (of the threads below one another), OlderUnseen (what is older than an activation sees no word of
 -- a frame that is apart), ThreadCut (a thread is cut from what lies below it), CopiesGive (a pure copy gives the older activation), and Restarts and
 -- RestartStands (a chain goes on).
-use Rattle.std.specs.Prelude.{◌≡◌, ℕ, ◌+◌, Bool, true, List, ◌∷◌, length, Option, Some, slice_set}
+use Rattle.std.specs.Prelude.{◌≡◌, ℕ, ◌+◌, true, List, ◌∷◌, length, Option, Some, slice_set}
 use Rattle.std.specs.List.{Contains}
 use Rattle.st_base.specs.declared.chain.Chain.{Chain}
 use Rattle.st_base.specs.declared.chain.Frame.{Frame}
