@@ -146,7 +146,7 @@ module _ (p : Program) (names names' : Naming) (grows : Grows names names') (hol
         handle,
         forked,
         behind,
-        record { file = file_same t.thread.registers value_put value_put' over.holds same_put over.file; holds = over.holds },
+        record { file = file_same t.thread.registers value_put value_put' over.holds same_put over.file; long = over.long; holds = over.holds },
         newest_same (Lower p names holds t.note.cell ts rest) (Lower p names' holds' t.note.cell ts rest) (lower_same ts rest t.note.cell parts.1) t.thread.activations fs 0 (ret + 4) fp value_put value_put' parts.0 same_put newest,
       )
   lower_same [] (fs ∷ rest) cell all kind kept value value' fp ret same lower = absurd lower

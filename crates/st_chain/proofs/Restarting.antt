@@ -142,8 +142,8 @@ module _ (names names' : List (Held × ℕ)) (grows : (name : Held) (cell : ℕ)
   waits_same thread (waits.Touch cell) (path, there, named) = (path, there, grows _ cell named)
   waits_same thread (waits.Join cell least) (maker, number, there, named, least_is) = (maker, number, there, grows _ cell named, least_is)
   waits_same thread waits.Trapped is = tt
-  waits_same thread waits.Ready is = tt
-  waits_same thread waits.Start is = tt
+  waits_same thread waits.Ready is = is
+  waits_same thread waits.Start is = absurd is
 
   pub stands_same : (p : Program) (held held' : List (Option ℕ)) (wait : Waiting) (pc fp : ℕ) (value value' : ℕ → ℕ) (thread : Thread) (frames : List Frame) → IsAccepted p → AllSame (is_held held) (is_held held') (word_in held) (word_in held') frames → SameKept value value'
       → StandsFor p names held wait pc fp value thread frames → StandsFor p names' held' wait pc fp value' thread frames

@@ -1,6 +1,7 @@
 -- Chains: a thread that doesn't run, by its place, its newest frame and s1 to s11, over the words that go with it. Read Walks, which says that a
--- chain stands for the thread that goes with it. Its parts are words_ahead, WaitsFor and KeepsFile; StandsFor says the same of a machine's registers.
-use Rattle.std.specs.Prelude.{◌≡◌, ℕ, ◌-◌, ◌≤◌, ◌==◌, true, List, Option, Some, None, slice_index, slice_index_or, if◌then◌else◌}
+-- chain stands for the thread that goes with it: the root that hasn't begun (IsUnbegun), or a thread with frames. StandsFor says of any place, frame
+-- pointer and registers what Walks says of those of a chain; its parts are words_ahead, WaitsFor and KeepsFile.
+use Rattle.std.specs.Prelude.{◌≡◌, ◌⊎◌, ℕ, ◌-◌, ◌≤◌, ◌==◌, true, List, [], length, Option, Some, None, slice_index, slice_index_or, if◌then◌else◌}
 use Rattle.st_base.specs.declared.chain.Chain.{Chain}
 use Rattle.st_base.specs.declared.chain.Frame.{Frame}
 use Rattle.st_base.specs.declared.chain.Waiting.{Waiting}
@@ -9,9 +10,15 @@ use Rattle.st_base.specs.declared.thread.Held.{Held}
 use Rattle.st_base.specs.declared.thread.Held.TheVariants.{Number, Future, Counter}
 use Rattle.st_base.specs.declared.thread.Thread.{Thread}
 use Rattle.st_model.specs.declared.program.Program.{Program}
+use Rattle.st_model.specs.declared.code.Layout.TheVariants.{Postprocessed}
 use Rattle.st_model.specs.Effect.{File}
+use Rattle.st_model.specs.Heap.{new_thread}
+use Rattle.st_model.specs.Layout.{function_address}
+use Rattle.st_model.specs.Memory.{Data}
+use Rattle.st_model.specs.Ordinary.{start}
+use Rattle.st_model.specs.declared.ordinary.State.{State}
 use Rattle.st_words.specs.declared.view.Cargo.{Cargo}
-use Rattle.st_step.specs.Frames.{Naming, IsHeldAs, is_kept}
+use Rattle.st_step.specs.Frames.{Naming, IsHeldAs, HoldsKept, is_kept}
 use Rattle.st_chain.specs.Walk.{word_in, is_held, named_by, FromNewest}
 use Rattle.st_chain.specs.Threads.{AtEnd}
 
@@ -27,12 +34,15 @@ words_ahead waits.Trapped ahead = ahead ≤ 1
 words_ahead waits.Ready ahead = ahead ≡ 0
 words_ahead waits.Start ahead = ⊥
 
--- what it waits for is named in the thread's a6, and the least count of a join is in its a0
+-- What it waits for is named in the thread's a6, and the least count of a join is in its a0. One that can go on is behind a fork: it has no registers
+-- but those that a call keeps.
 abbrev pub WaitsFor : Naming → Thread → Waiting → Type 0
 WaitsFor names thread (waits.Touch cell) = (path : List ℕ) × (slice_index_or thread.registers 16 None ≡ Some (Future path)) × names (Future path) cell
 WaitsFor names thread (waits.Join cell least) =
     (maker : List ℕ) × (number : ℕ) × (slice_index_or thread.registers 16 None ≡ Some (Counter maker number)) × names (Counter maker number) cell × (slice_index_or thread.registers 10 None ≡ Some (Number least))
-WaitsFor names thread _ = Prim.Unit
+WaitsFor names thread waits.Ready = HoldsKept thread.registers × (length thread.registers ≡ 32)
+WaitsFor names thread waits.Trapped = Prim.Unit
+WaitsFor names thread waits.Start = ⊥
 
 -- of the thread's registers only those that a call keeps are read
 abbrev pub KeepsFile : Naming → File → (ℕ → ℕ) → Type 0
@@ -44,6 +54,16 @@ StandsFor p names held wait pc fp value thread frames =
     (ahead : ℕ) × words_ahead wait ahead × WaitsFor (named_by names) thread wait × KeepsFile (named_by names) thread.registers value
     × FromNewest p (named_by names) (is_held held) AtEnd ahead pc fp (word_in held) value thread.activations frames
 
+-- the root, which hasn't begun: it has no frame, and its place is that of `main`
+pub record IsUnbegun (p : Program) (d : Data) (chain : Chain) (thread : Thread) (frames : List Frame) : Type 0 where
+  pub wait : chain.wait ≡ waits.Start
+  pub first : State
+  pub begins : start p d ≡ Some first
+  pub root : thread ≡ new_thread first.top first.registers
+  pub none : frames ≡ []
+  pub at : chain.pc ≡ function_address Postprocessed p p.main
+
 -- a chain stands for the thread that goes with it
-abbrev pub Walks : Program → Chain → Cargo → Type 0
-Walks p chain cargo = StandsFor p cargo.names cargo.words chain.wait chain.pc chain.fp (saved_value chain.saved) cargo.carried.known.thread cargo.frames
+abbrev pub Walks : Program → Data → Chain → Cargo → Type 0
+Walks p d chain cargo =
+    IsUnbegun p d chain cargo.carried.known.thread cargo.frames ⊎ StandsFor p cargo.names cargo.words chain.wait chain.pc chain.fp (saved_value chain.saved) cargo.carried.known.thread cargo.frames

@@ -2,11 +2,12 @@
 -- frames are read of a thread) and LowerSame (of the threads below one another), OlderUnseen (what is older than an activation sees no word of
 -- a frame that is apart), ThreadCut (a thread is cut from what lies below it), CopiesGive (a pure copy gives the older activation), and Restarts and
 -- RestartStands (a chain goes on).
-use Rattle.std.specs.Prelude.{◌≡◌, ℕ, ◌+◌, true, List, ◌∷◌, length, Option, Some, slice_set}
+use Rattle.std.specs.Prelude.{◌≡◌, ◌≢◌, ℕ, ◌+◌, true, List, ◌∷◌, length, Option, Some, slice_set}
 use Rattle.std.specs.List.{Contains}
 use Rattle.st_base.specs.declared.chain.Chain.{Chain}
 use Rattle.st_base.specs.declared.chain.Frame.{Frame}
 use Rattle.st_base.specs.declared.chain.Waiting.{Waiting}
+use Rattle.st_base.specs.declared.chain.Waiting.TheVariants as waits
 use Rattle.st_base.specs.declared.reg.Reg.TheVariants as registers
 use Rattle.st_base.specs.declared.thread.Activation.{Activation}
 use Rattle.st_base.specs.declared.thread.ActivationKind.{ActivationKind}
@@ -86,8 +87,8 @@ CopiesGive =
 abbrev pub Restarts : Type 0
 Restarts = (c : Chain) (m : State) → HasRegisters m → IsRestarted c m (restarted c m)
 
--- a machine that goes on with a chain stands for its thread, over the words of whoever took it
+-- a machine that goes on with a chain that has begun stands for its thread, over the words of whoever took it
 abbrev pub RestartStands : Type 0
 RestartStands =
-    (p : Program) (c : Chain) (cargo : Cargo) (names : List (Held × ℕ)) (held : List (Option ℕ)) (m : State) → IsAccepted p → HasRegisters m → HasNames cargo.names names → AllSameHeld cargo.words held cargo.frames → Walks p c cargo
+    (p : Program) (d : Data) (c : Chain) (cargo : Cargo) (names : List (Held × ℕ)) (held : List (Option ℕ)) (m : State) → IsAccepted p → HasRegisters m → c.wait ≢ waits.Start → HasNames cargo.names names → AllSameHeld cargo.words held cargo.frames → Walks p d c cargo
     → StandsFor p names held c.wait (restarted c m).pc (register (restarted c m) registers.S0) (value_in (restarted c m)) cargo.carried.known.thread cargo.frames

@@ -1,6 +1,6 @@
 -- Threads below one another, as one worker has them. Read AtEnd (nothing lies below a thread) and Lower (the threads below one): both are what
 -- stands behind a thread's first activation.
-use Rattle.std.specs.Prelude.{◌≡◌, ℕ, ◌+◌, ◌-◌, ◌==◌, Bool, List, [], ◌∷◌, Some, slice_get, if◌then◌else◌}
+use Rattle.std.specs.Prelude.{◌≡◌, ℕ, ◌+◌, ◌-◌, ◌==◌, Bool, List, [], ◌∷◌, length, if◌then◌else◌}
 use Rattle.st_base.specs.declared.chain.Frame.{Frame}
 use Rattle.st_base.specs.declared.reg.Reg.{Reg}
 use Rattle.st_base.specs.Reg.{reg_number}
@@ -8,7 +8,6 @@ use Rattle.st_base.specs.declared.thread.Activation.{Activation}
 use Rattle.st_base.specs.declared.thread.ActivationKind.TheVariants.{Forked}
 use Rattle.st_model.specs.declared.code.Layout.TheVariants.{Postprocessed}
 use Rattle.st_model.specs.declared.program.Item.{Item}
-use Rattle.st_model.specs.declared.program.ItemKind.{ItemKind}
 use Rattle.st_model.specs.declared.program.ItemKind.TheVariants.{Fork}
 use Rattle.st_model.specs.declared.program.Program.{Program}
 use Rattle.st_model.specs.declared.program.ProgramFunction.{ProgramFunction}
@@ -16,6 +15,7 @@ use Rattle.st_model.specs.Effect.{File, IsFirst}
 use Rattle.st_words.specs.declared.view.Known.{Known}
 use Rattle.st_step.specs.Frames.{Naming, HasFile, HoldsKept, address_in}
 use Rattle.st_items.specs.Body.{Context}
+use Rattle.st_items.specs.Code.{HasItem}
 use Rattle.st_chain.specs.Walk.{FromNewest}
 
 -- nothing lies below: the thread's first activation comes back to the entry st_end
@@ -25,18 +25,13 @@ AtEnd kind kept word value fp ret = IsFirst kind × (ret ≡ 0x30)
 abbrev pub put_value : ℕ → ℕ → (ℕ → ℕ) → ℕ → ℕ
 put_value r n value x = if r == x then n else value x
 
--- the item is a fork into this register
-abbrev pub ForksInto : Reg → ItemKind → Type 0
-ForksInto handle (Fork f r) = handle ≡ r
-ForksInto handle _ = ⊥
-
 -- the activation has forked into this register, and the third jump of the fork stands at `ret`
 pub record IsBehindFork (p : Program) (ret : ℕ) (handle : Reg) (a : Activation) : Type 0 where
   pub function : ProgramFunction
-  pub here : slice_get p.functions a.function ≡ Some function
   pub item : Item
-  pub placed : slice_get function.items (a.next - 1) ≡ Some item
-  pub forks : ForksInto handle item.kind
+  pub has : HasItem p a.function function (a.next - 1) item
+  pub g : ℕ
+  pub forks : item.kind ≡ Fork g handle
   pub third : ret + 4 ≡ address_in Postprocessed p a.function function a.next
 
 -- its newest activation has
@@ -47,6 +42,7 @@ HasForked p ret handle (a ∷ older) = IsBehindFork p ret handle a
 -- a thread that has forked has no registers but those that a call keeps and the fork's, and these have the values
 pub record HoldsOver (names : Naming) (registers : File) (value : ℕ → ℕ) : Type 0 where
   pub file : HasFile names registers value
+  pub long : length registers ≡ 32
   pub holds : HoldsKept registers
 
 -- The threads below one whose cell this is, the newest first, each with its frames: the one above comes back to the third jump of the fork that made
