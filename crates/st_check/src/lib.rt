@@ -16,8 +16,6 @@ mod reads;
 mod registers;
 mod shape;
 mod slots;
-#[cfg(test)]
-mod tests;
 mod unit;
 
 pub use accept::{Checked, check};

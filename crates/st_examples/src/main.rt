@@ -3,11 +3,16 @@
 //! is printed says how many rows of each file hold, and tells each row that doesn't.
 #![tactic(auto)]
 
+mod acceptance;
 mod cases;
+mod code;
 mod instructions;
+mod items;
+mod jobs;
 mod lines;
 mod lists;
 mod outside;
+mod runs;
 mod subjects;
 mod tellings;
 mod texts;

@@ -1,8 +1,13 @@
 //! What rows are about.
+use crate::acceptance::{checked, form};
+use crate::code::coded;
 use crate::instructions::{compares, computes_to, decoded, encoded, reads, table};
+use crate::items::item;
+use crate::jobs::job;
 use crate::lines::{BODY, DATA, FULL, HEAD, OUTSIDE, is_like, label, line, places, spans};
-use crate::lists::list;
+use crate::lists::{flow, keys, list};
 use crate::outside::{mem_files, mem_sink, mem_source, sure_files, sure_sink, sure_source};
+use crate::runs::end;
 use crate::tellings::telling;
 use crate::units::{again, entry, fault, printed, unit};
 use std::alloc::{AllocError, Global};
@@ -33,7 +38,9 @@ fn files_said(alloc: Global, subject: &str, input: &[u8]) -> Result<Option<Strin
         "fault" => fault(alloc, input)?,
         "canonical text" => printed(alloc, input)?,
         "printed again" => again(alloc, input)?,
-        _ => return Ok(None),
+        "form" => form(alloc, input)?,
+        "check" => checked(alloc, input)?,
+        _ => return coded(alloc, subject, input),
     };
     Ok(Some(said))
 }
@@ -48,7 +55,12 @@ fn text_said(alloc: Global, subject: &str, input: &str) -> Result<String, AllocE
         "result" => computes_to(alloc, input),
         "branch" => compares(alloc, input),
         "load" => reads(alloc, input),
+        "item" => item(alloc, input),
+        "keys" => keys(alloc),
+        "end" => end(alloc, input),
+        "first undefined read" => flow(alloc, input),
         "told" => telling(alloc, input),
+        "job" => job(alloc, input),
         "list" => list(alloc, input),
         "files over memory" => mem_files(alloc, input),
         "sure files" => sure_files(alloc, input),

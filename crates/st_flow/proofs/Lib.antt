@@ -10,4 +10,3 @@ pub mod Reading
 pub mod Hits
 pub mod Joining
 pub mod Answering
-pub mod TestFunctions

@@ -65,6 +65,3 @@ pub fn first_undefined(
         path: Listed::from_vec(path),
     }))
 }
-
-#[cfg(test)]
-mod tests;

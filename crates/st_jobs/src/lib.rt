@@ -11,8 +11,6 @@ mod numbers;
 mod options;
 mod read;
 mod schedule;
-#[cfg(test)]
-mod tests;
 mod words;
 
 pub use job::{GenArgs, Job, Names, RunArgs, SimArgs, WordsError};

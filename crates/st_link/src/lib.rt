@@ -8,8 +8,6 @@ mod encoded;
 mod error;
 mod far;
 mod image;
-#[cfg(test)]
-mod tests;
 
 pub use error::{LinkError, LinkFault};
 pub use image::{link, link_plain};

@@ -9,5 +9,3 @@ pub mod ordinary;
 pub mod output;
 pub mod plain;
 pub mod program;
-#[cfg(test)]
-mod tests;

@@ -17,11 +17,6 @@ use st_base::registers::{Pick, Registers};
 use st_base::thread::{Activation, ActivationKind, Held, TrapKind};
 use std::alloc::{AllocError, Global};
 
-#[cfg(test)]
-mod programs;
-#[cfg(test)]
-mod tests;
-
 /// How an ordinary-call run ends, with the bytes that were printed.
 #[derive(Debug, Drop)]
 pub enum OrdEnd {

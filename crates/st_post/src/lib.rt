@@ -15,8 +15,6 @@ mod processing;
 mod rows;
 mod saved;
 mod sizes;
-#[cfg(test)]
-mod tests;
 mod words;
 
 pub use layout::{Code, lay_out};

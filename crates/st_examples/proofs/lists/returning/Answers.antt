@@ -1,8 +1,8 @@
 use Rattle.std.proofs.Common.{◌∙◌, ◌++◌, ◌∷◌, [], ap, refl}
 use Rattle.st_model.specs.declared.program.Item.{Item}
 use Rattle.st_model.specs.declared.program.ItemKind.TheVariants.{Prologue, Epilogue}
-use Rattle.st_flow.proofs.TestFunctions.{returning_formed}
-use Rattle.st_flow.proofs.tests.returning.Goals as goal
+use Rattle.st_examples.proofs.Returning.{returning_formed}
+use Rattle.st_examples.proofs.lists.returning.Goals as goal
 
 abbrev prologue : Item
 prologue = record { line = record { file = 1; line = 1 }; kind = Prologue }

@@ -1,4 +1,4 @@
--- The functions of the tests are formed: returning_formed.
+-- The function that returns at once is formed: returning_formed.
 use Rattle.std.proofs.Common.{◌≡◌, ℕ, zero, suc, ◌+◌, ◌≤◌, List, [], ◌∷◌, Some, refl, sym, ap, ◌∙◌, subst, arith}
 use Rattle.std.specs.Prelude.{slice_get, count_ones}
 use Rattle.std.proofs.lemmas.Nat.{ones_le_self}
