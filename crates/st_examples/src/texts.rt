@@ -23,9 +23,9 @@ impl Texts {
         Ok(())
     }
 
-    /// The text of this name; `?` where there is none.
+    /// The text that was given this name last; `?` where there is none.
     fn find(&self, name: &str) -> &[u8] {
-        for (known, text) in &self.named {
+        for (known, text) in self.named.iter().rev() {
             if known.as_str() == name {
                 return text.as_slice();
             }

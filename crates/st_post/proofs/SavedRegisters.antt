@@ -1,19 +1,13 @@
--- At most eleven registers are saved (saved_few), so a function has few words for its items (function_size_few). How one register more is
--- read from the bits (saved_among-skips, saved_among-takes, saved_among-pushed).
-use Rattle.std.proofs.Common.{◌≡◌, ℕ, ◌+◌, ◌*◌, ◌≤◌, Bool, true, false, ◌==◌, ◌<◌, ◌∙◌, List, [], ◌∷◌, ◌++◌, append_assoc, ap, sym, drop, get_or, length, cond, arith}
+-- At most eleven registers are saved (saved_few). How one register more is read from the bits (saved_among-skips, saved_among-takes,
+-- saved_among-pushed).
+use Rattle.std.proofs.Common.{◌≡◌, ℕ, ◌+◌, ◌≤◌, Bool, true, false, ◌==◌, ◌<◌, ◌∙◌, List, [], ◌∷◌, ◌++◌, append_assoc, ap, sym, drop, get_or, length, cond, arith}
 use Rattle.std.specs.Int.{bit_at}
 use Rattle.st_base.specs.declared.reg.Reg.{Reg}
 use Rattle.st_base.specs.declared.reg.Reg.TheVariants as registers
 use Rattle.std.proofs.lemmas.List.{get_or_default}
 use Rattle.st_check.proofs.Drops.{drop-read}
-use Rattle.st_model.specs.declared.code.Layout.{Layout}
-use Rattle.st_model.specs.declared.code.Layout.TheVariants.{Postprocessed, Unchanged}
-use Rattle.st_model.specs.declared.program.Item.{Item}
-use Rattle.st_model.specs.declared.program.ItemKind.{ItemKind}
-use Rattle.st_model.specs.declared.program.ItemKind.TheVariants as items
 use Rattle.st_model.specs.declared.program.ProgramFunction.{ProgramFunction}
-use Rattle.st_model.specs.Layout.{saveable, saved_among, saved_of, li_ins, copy_by, item_size, items_size, function_size}
-use Rattle.st_model.proofs.CodeSize.{copy-few, li-few}
+use Rattle.st_model.specs.Layout.{saveable, saved_among, saved_of}
 
 one-more : {A : Type 0} (n : ℕ) (b : Bool) (x : A) (xs ys : List A) → length xs ≤ n → length ys ≤ n → length (cond b (x ∷ xs) ys) ≤ n + 1
 one-more n true x xs ys h k = omega arith
@@ -43,26 +37,3 @@ saved_among-takes bits k rs d inside set =
 pub saved_among-pushed : {A : Type 0} (items taken : List A) (x : A) (left more whole : List A) → items ≡ taken ++ x ∷ [] → more ≡ x ∷ left → taken ++ more ≡ whole → items ++ left ≡ whole
 saved_among-pushed items taken x left more whole e next before =
     (λ j. e j ++ left) ∙ append_assoc taken (x ∷ []) left ∙ ap (λ rs. taken ++ rs) (sym next) ∙ before
-
--- so an item has at most twenty words
-item_size-few : (layout : Layout) (function : ProgramFunction) (kind : ItemKind) → item_size layout function kind ≤ 20
-item_size-few layout function items.Prologue = omega (arith, saved_few function)
-item_size-few Postprocessed function items.Epilogue = omega (arith, saved_few function)
-item_size-few Unchanged function items.Epilogue = omega (arith, saved_few function)
-item_size-few layout function (items.Plain i) = omega arith
-item_size-few layout function (items.Li rd value) = let few : length (li_ins rd value) ≤ 2 = li-few rd value in omega (arith, few)
-item_size-few layout function (items.Branch op rs1 rs2 to) = omega arith
-item_size-few layout function (items.Jump to) = omega arith
-item_size-few layout function (items.Call f) = omega arith
-item_size-few layout function (items.Entry at) = omega arith
-item_size-few layout function (items.Fork f handle) = omega arith
-
-items_size-few : (layout : Layout) (function : ProgramFunction) (xs : List Item) → items_size layout function xs ≤ 20 * length xs
-items_size-few layout function [] = omega arith
-items_size-few layout function (x ∷ xs) = omega (arith, item_size-few layout function x.kind, items_size-few layout function xs)
-
--- and a function at most twenty for each item and fifteen for the pure copy
-pub function_size_few : (layout : Layout) (function : ProgramFunction) → function_size layout function ≤ 20 * length function.items + 15
-function_size_few layout function =
-    let copy : length (copy_by layout function) ≤ 4 + length (saved_of function) = copy-few layout function in
-    omega (arith, saved_few function, copy, items_size-few layout function function.items)
