@@ -1,7 +1,7 @@
 -- Which item a run is at where the machine is at an entry: the call of that entry (calling), its fork (forking), or the epilogue of a thread's
 -- first call (ending). Each says what the item's step is and which limit it meets. Behind the jump that called an entry the machine goes on at
 -- a low address, of the item's line (back_low, back_line).
-use Rattle.std.proofs.Common.{◌≡◌, ◌≢◌, ◌⊎◌, inl, inr, ℕ, zero, suc, ◌+◌, ◌-◌, ◌*◌, ◌^◌, ◌<◌, ◌≤◌, ◌==◌, Bool, true, false, cond, List, length, Option, Some, None, slice_get, refl, ap, sym, ◌∙◌, subst, arith}
+use Rattle.std.proofs.Common.{◌≡◌, ◌≢◌, ◌⊎◌, inl, inr, ℕ, ◌+◌, ◌-◌, ◌*◌, ◌^◌, ◌<◌, ◌≤◌, ◌==◌, Bool, true, false, cond, List, length, Option, Some, None, slice_get, refl, ap, sym, ◌∙◌, subst, arith}
 use Rattle.std.specs.Prelude.{nat_lt}
 use Rattle.std.proofs.lemmas.Bool.{ne_eqb, le-ltb}
 use Rattle.st_base.specs.declared.image.Image.{Image}
@@ -20,37 +20,37 @@ use Rattle.st_model.specs.declared.program.Program.{Program}
 use Rattle.st_model.specs.declared.program.ProgramFunction.{ProgramFunction}
 use Rattle.st_model.specs.declared.program.RuntimeCall.{RuntimeCall}
 use Rattle.st_model.specs.declared.program.RuntimeCall.TheVariants.{Poll, Putc}
-use Rattle.st_model.specs.Accepted.{IsAccepted, IsFormed, Fits, IsPrologue}
+use Rattle.st_model.specs.Accepted.{IsAccepted, Fits, IsPrologue}
 use Rattle.st_model.specs.Bounded.{limit_at, limit_when, overflows}
 use Rattle.st_model.specs.Draws.{call_draws, draws, drawn_by}
 use Rattle.st_model.specs.Effect.{runtime_call, entry_effect, runtime_effect, item_effect}
-use Rattle.st_model.specs.Layout.{item_size, HasSize}
+use Rattle.st_model.specs.Layout.{item_size}
 use Rattle.st_model.specs.Memory.{Data}
-use Rattle.st_model.specs.Ordinary.{step, step_at, apply, item_at}
+use Rattle.st_model.specs.Ordinary.{step, apply, item_at}
 use Rattle.st_step.specs.Moves.{register}
 use Rattle.st_step.specs.Runs.{Situation}
 use Rattle.st_plain.specs.declared.run.PlainRun.{PlainRun}
 use Rattle.st_plain.specs.Answer.{IsPlainImage}
-use Rattle.st_plain.specs.Code.{word_index, item_address, HasItem}
+use Rattle.st_items.specs.Code.{word_index, HasItem, IsSized}
+use Rattle.st_step.specs.Frames.{address_in}
 use Rattle.st_plain.specs.Running.{IsAtEntry, limit_met}
-use Rattle.st_plain.specs.Standing.{situation, Enters, EndsAt, AtCall, AtEnd}
-use Rattle.st_plain.proofs.Addresses.{address_bounds}
-use Rattle.st_plain.proofs.Tables.{lines_at}
+use Rattle.st_items.specs.Called.{Enters}
+use Rattle.st_plain.specs.Standing.{situation, EndsAt, AtCall, AtEnd}
+use Rattle.st_items.proofs.Addresses.{address_bounds}
+use Rattle.st_items.proofs.Tables.{lines_at}
+use Rattle.st_items.proofs.ItemCode.{formed_of, behind_prologue}
+use Rattle.st_plain.proofs.ItemBegins.{has_word}
+use Rattle.st_plain.proofs.Turning.{step_is}
 
 -- ---- the item
 
 pub item_there : (p : Program) (s : State) (function : ProgramFunction) (item : Item) → slice_get p.functions s.top.function ≡ Some function → slice_get function.items s.top.next ≡ Some item → item_at p s.top ≡ Some item
 item_there p s function item here placed = rw here placed
 
-step_there : (p : Program) (d : Data) (s : State) (function : ProgramFunction) (item : Item) → slice_get p.functions s.top.function ≡ Some function → slice_get function.items s.top.next ≡ Some item
-    → step p d s ≡ apply s.rest item.line (item_effect p d item.kind s.top s.registers)
-unfolding step
-step_there p d s function item here placed = ap (step_at p d s) (item_there p s function item here placed)
-
 -- a step by the item's kind
 pub step_by : (p : Program) (d : Data) (s : State) (function : ProgramFunction) (item : Item) (kind : ItemKind) → slice_get p.functions s.top.function ≡ Some function → slice_get function.items s.top.next ≡ Some item → item.kind ≡ kind
     → step p d s ≡ apply s.rest item.line (item_effect p d kind s.top s.registers)
-step_by p d s function item kind here placed is = step_there p d s function item here placed ∙ ap (λ (k : ItemKind). apply s.rest item.line (item_effect p d k s.top s.registers)) is
+step_by p d s function item kind here placed is = step_is p d s item kind (item_there p s function item here placed) is
 
 -- and the limit that it meets
 pub limit_by : (p : Program) (limits : Limits) (drawn : ℕ) (s : State) (function : ProgramFunction) (item : Item) (kind : ItemKind) → slice_get p.functions s.top.function ≡ Some function → slice_get function.items s.top.next ≡ Some item → item.kind ≡ kind
@@ -67,17 +67,6 @@ drawn_at p s function item kind here placed is = ap drawn_by (item_there p s fun
 -- an item that draws no cell and makes no frame
 pub no_limit : (cells bytes : ℕ) → limit_when (nat_lt cells 0) false bytes ≡ None
 no_limit cells bytes = ap (λ (b : Bool). limit_when b false bytes) (le-ltb cells 0 (omega arith))
-
-formed_at : (p : Program) (f : ℕ) (function : ProgramFunction) → IsAccepted p → slice_get p.functions f ≡ Some function → IsFormed p function
-formed_at p f function accepted here = (accepted.functions f function here).formed
-
-begun_by : (p : Program) (function : ProgramFunction) (next : ℕ) (item : Item) → IsFormed p function → slice_get function.items next ≡ Some item → (IsPrologue item.kind → ⊥) → 0 < next
-begun_by p function zero item formed placed other =
-    let first = formed.begins in
-    let there = first.1 in
-    let same : first.0 ≡ item = cc in
-    absurd (other (subst (λ (i : Item). IsPrologue i.kind) same first.2))
-begun_by p function (suc next) item formed placed other = omega arith
 
 -- ---- calls
 
@@ -113,7 +102,7 @@ calling_at : (p : Program) (d : Data) (limits : Limits) (names : List Held) (t :
 calling_at p d limits names t s n call accepted at is calls = record {
   at = at;
   size = ap (item_size Unchanged at.stands.function) is;
-  begun = begun_by p at.stands.function s.top.next at.item (formed_at p s.top.function at.stands.function accepted at.stands.here) at.placed (λ prologue. subst IsPrologue is prologue);
+  begun = behind_prologue p at.stands.function s.top.next at.item (formed_of p s.top.function at.stands.function accepted at.stands.here) at.placed (λ prologue. subst IsPrologue is prologue);
   steps =
       step_by p d s at.stands.function at.item (items.Entry n) at.stands.here at.placed is
       ∙ ap (λ (o : Option RuntimeCall). apply s.rest at.item.line (runtime_effect o s.top s.registers)) calls;
@@ -150,7 +139,7 @@ polling p d image limits r names s pi entry fork_in fork_out end touch counter d
     let at = call_at p limits r names s entry fork_out end in
     let pc = r.machine.pc in
     let is = entry_kind at.item.kind pc pc at.enters refl fork_in in
-    let fits : Fits p at.stands.function (items.Entry pc) = subst (Fits p at.stands.function) is ((formed_at p s.top.function at.stands.function pi.accepted at.stands.here).fits s.top.next at.item at.placed) in
+    let fits : Fits p at.stands.function (items.Entry pc) = subst (Fits p at.stands.function) is ((formed_of p s.top.function at.stands.function pi.accepted at.stands.here).fits s.top.next at.item at.placed) in
     calling_at p d limits names (situation r.machine r.board.words.stack) s pc Poll pi.accepted at is (fits.1 ∙ ap Some (poll_alone pc fits.0 fits.1 touch counter done join putc))
 
 -- ---- forks
@@ -185,7 +174,7 @@ pub forking : (p : Program) (d : Data) (image : Image) (limits : Limits) (r : Pl
     → IsForking p d limits names (situation r.machine r.board.words.stack) s
 forking p d image limits r names s pi entry is =
     let at = call_at p limits r names s entry (λ e. omega (arith, e, is)) (λ e. omega (arith, e, is)) in
-    let formed = formed_at p s.top.function at.stands.function pi.accepted at.stands.here in
+    let formed = formed_of p s.top.function at.stands.function pi.accepted at.stands.here in
     let fits = formed.fits s.top.next at.item at.placed in
     let fork = fork_kind p at.stands.function at.item.kind r.machine.pc fits at.enters is in
     record {
@@ -193,7 +182,7 @@ forking p d image limits r names s pi entry is =
       f = fork.0;
       handle = fork.1;
       kind = fork.2;
-      begun = begun_by p at.stands.function s.top.next at.item formed at.placed (λ prologue. subst IsPrologue {x = at.item.kind} {y = items.Fork fork.0 fork.1} fork.2 prologue);
+      begun = behind_prologue p at.stands.function s.top.next at.item formed at.placed (λ prologue. subst IsPrologue {x = at.item.kind} {y = items.Fork fork.0 fork.1} fork.2 prologue);
       fits = subst (Fits p at.stands.function) {x = at.item.kind} {y = items.Fork fork.0 fork.1} fork.2 fits;
       steps = step_by p d s at.stands.function at.item (items.Fork fork.0 fork.1) at.stands.here at.placed fork.2;
       limit = λ drawn. limit_by p limits drawn s at.stands.function at.item (items.Fork fork.0 fork.1) at.stands.here at.placed fork.2;
@@ -230,7 +219,7 @@ ending p d image limits r names s n pi entry is other none = by_case entry.at
   where
     by_case : AtCall p limits.stack names (situation r.machine r.board.words.stack) s ⊎ AtEnd p limits.stack names (situation r.machine r.board.words.stack) s → IsEnding p d limits names (situation r.machine r.board.words.stack) s
     by_case (inl call) =
-        let fits = (formed_at p s.top.function call.stands.function pi.accepted call.stands.here).fits s.top.next call.item call.placed in
+        let fits = (formed_of p s.top.function call.stands.function pi.accepted call.stands.here).fits s.top.next call.item call.placed in
         absurd (never_called p call.stands.function call.item.kind r.machine.pc fits call.enters (λ e. other (sym is ∙ e)) (ap runtime_call is ∙ none))
     by_case (inr at) = record {
       at = at;
@@ -242,29 +231,18 @@ ending p d image limits r names s n pi entry is other none = by_case entry.at
 -- ---- the way back
 
 -- the word of the call, behind which the machine goes on
-pub back_low : (p : Program) (stack : ℕ) (names : List Held) (t : Situation) (s : State) → HasSize p → (at : AtCall p stack names t s) → (0x10004 ≤ register t.state registers.Ra) × (register t.state registers.Ra < 2 ^ 32)
+pub back_low : (p : Program) (stack : ℕ) (names : List Held) (t : Situation) (s : State) → IsSized Unchanged p → (at : AtCall p stack names t s) → (0x10004 ≤ register t.state registers.Ra) × (register t.state registers.Ra < 2 ^ 32)
 back_low p stack names t s size at =
     let has : HasItem p s.top.function at.stands.function s.top.next at.item = record { named = at.stands.here; placed = at.placed } in
-    let bounds = address_bounds p s.top.function at.stands.function s.top.next at.item size has in
+    let bounds = address_bounds Unchanged p s.top.function at.stands.function s.top.next at.item size has in
     let back = at.back in
     (omega (arith, bounds.0, back), omega (arith, bounds.1, back))
 
-pub back_word : (p : Program) (stack : ℕ) (names : List Held) (t : Situation) (s : State) (at : AtCall p stack names t s) → register t.state registers.Ra - 4 ≡ item_address p s.top.function at.stands.function s.top.next
+pub back_word : (p : Program) (stack : ℕ) (names : List Held) (t : Situation) (s : State) (at : AtCall p stack names t s) → register t.state registers.Ra - 4 ≡ address_in Unchanged p s.top.function at.stands.function s.top.next
 back_word p stack names t s at = let back = at.back in omega (arith, back)
-
-some_size : (function : ProgramFunction) (kind : ItemKind) (entry : ℕ) → Enters kind entry → 0 < item_size Unchanged function kind
-some_size function (items.Entry at) entry enters = omega arith
-some_size function (items.Fork f handle) entry enters = omega arith
-some_size function items.Prologue entry enters = absurd enters
-some_size function items.Epilogue entry enters = absurd enters
-some_size function (items.Plain i) entry enters = absurd enters
-some_size function (items.Li rd value) entry enters = absurd enters
-some_size function (items.Branch op rs1 rs2 to) entry enters = absurd enters
-some_size function (items.Jump to) entry enters = absurd enters
-some_size function (items.Call f) entry enters = absurd enters
 
 pub back_line : (p : Program) (image : Image) (stack : ℕ) (names : List Held) (t : Situation) (s : State) → IsPlainImage p image → (at : AtCall p stack names t s) → slice_get image.lines (word_index (register t.state registers.Ra - 4)) ≡ Some at.item.line
 back_line p image stack names t s pi at =
     let has : HasItem p s.top.function at.stands.function s.top.next at.item = record { named = at.stands.here; placed = at.placed } in
-    let first : register t.state registers.Ra - 4 ≡ item_address p s.top.function at.stands.function s.top.next + 4 * 0 = omega (arith, back_word p stack names t s at) in
-    ap (λ (n : ℕ). slice_get image.lines (word_index n)) first ∙ lines_at p image s.top.function at.stands.function s.top.next at.item 0 pi has (some_size at.stands.function at.item.kind t.state.pc at.enters)
+    let first : register t.state registers.Ra - 4 ≡ address_in Unchanged p s.top.function at.stands.function s.top.next + 4 * 0 = omega (arith, back_word p stack names t s at) in
+    ap (λ (n : ℕ). slice_get image.lines (word_index n)) first ∙ lines_at Unchanged p image s.top.function at.stands.function s.top.next at.item 0 pi has (has_word at.stands.function at.item.kind)

@@ -1,6 +1,6 @@
 -- What the first instruction of an item leads to (item_begins): the machine goes on, to the next item or to an entry, or it stops, where
 -- the ordinary-call run traps or a frame passes the stack. Read Begins.
-use Rattle.std.proofs.Common.{◌≡◌, ◌≢◌, ◌⊎◌, inl, inr, ℕ, ◌+◌, ◌-◌, ◌*◌, ◌%◌, ◌<◌, ◌≤◌, nat_lt, Bool, true, false, if◌then◌else◌, List, [], ◌∷◌, length, Option, Some, None, slice_get, refl, ap, ◌∙◌, sym, subst, arith}
+use Rattle.std.proofs.Common.{◌≡◌, ◌≢◌, ◌⊎◌, inl, inr, ℕ, ◌+◌, ◌-◌, ◌*◌, ◌%◌, ◌≤◌, nat_lt, Bool, true, false, List, length, Option, Some, None, slice_get, refl, ap, ◌∙◌, sym, subst, arith}
 use Rattle.std.proofs.lemmas.Bool.{le-ltb}
 use Rattle.st_base.specs.declared.image.Image.{Image}
 use Rattle.st_base.specs.declared.line.Line.{Line}
@@ -20,10 +20,7 @@ use Rattle.st_model.specs.declared.ordinary.Turn.TheVariants.{Undefined, Goes, O
 use Rattle.st_model.specs.Bounded.{past_stack, limit_at, limit_when, overflows}
 use Rattle.st_model.specs.Draws.{draws, drawn_by}
 use Rattle.st_model.specs.Effect.{IsFirst}
-use Rattle.st_model.specs.declared.program.ProgramFunction.{ProgramFunction}
 use Rattle.st_model.specs.declared.code.Layout.TheVariants.{Unchanged}
-use Rattle.st_model.specs.declared.code.PostedIns.{PostedIns}
-use Rattle.st_model.specs.Layout.{item_size, is_short}
 use Rattle.st_model.specs.Memory.{Data}
 use Rattle.st_model.specs.Ordinary.{step, step_at, item_at}
 use Rattle.st_step.specs.declared.machine.StepEnd.{StepEnd}
@@ -31,15 +28,22 @@ use Rattle.st_step.specs.declared.machine.StepEnd.TheVariants as stepped
 use Rattle.st_step.specs.Moves.{Stops, move_of}
 use Rattle.st_step.specs.Runs.{Situation}
 use Rattle.st_plain.specs.Answer.{IsPlainImage}
-use Rattle.st_plain.specs.Code.{code_at, item_address, word_index}
-use Rattle.st_plain.specs.Running.{Leads, limit_met}
-use Rattle.st_plain.specs.Standing.{Stands, AtCall, AtEnd}
-use Rattle.st_plain.proofs.Calls.{prologue_goes, prologue_stops, call_goes, return_goes, enters, ends as thread_ends, IsEntering}
+use Rattle.st_items.specs.Code.{code_at, word_index}
+use Rattle.st_step.specs.Frames.{address_in}
+use Rattle.st_items.specs.Ways.{Leads}
+use Rattle.st_plain.specs.Running.{limit_met}
+use Rattle.st_plain.specs.Standing.{Stands, AtCall, AtEnd, on_stack}
+use Rattle.st_plain.proofs.Prologues.{prologue_goes, prologue_stops}
+use Rattle.st_plain.proofs.Epilogues.{return_goes, ends as thread_ends}
+use Rattle.st_plain.proofs.Calls.{call_goes, enters, IsEntering}
+use Rattle.st_items.specs.Code.{IsSized}
+use Rattle.st_items.proofs.Addresses.{sized}
 use Rattle.st_plain.proofs.Lines.{line_goes}
-use Rattle.st_plain.proofs.AtLine.{IsLine}
-use Rattle.st_plain.proofs.Tables.{lines_at}
+use Rattle.st_items.specs.Body.{IsLine}
+use Rattle.st_items.proofs.Tables.{lines_at}
 use Rattle.st_plain.proofs.Turning.{TurnGoes}
-use Rattle.st_plain.proofs.Turns.{item_of}
+use Rattle.st_items.proofs.ItemCode.{item_of}
+use Rattle.st_plain.proofs.ItemBegins.{has_word}
 
 -- the item needs nothing of the runtime: it passes no limit, draws no cell, and the machine comes to the next one
 pub record GoesAlone (p : Program) (d : Data) (limits : Limits) (drawn : ℕ) (names : List Held) (v : Situation) (s : State) : Type 0 where
@@ -63,31 +67,13 @@ StopsAs p image d limits drawn t s _ = ⊥
 
 pub record Stopping (p : Program) (image : Image) (d : Data) (limits : Limits) (drawn : ℕ) (t : Situation) (s : State) : Type 0 where
   pub ins : Ins
-  pub there : code_at p t.state.pc ≡ Some ins
+  pub there : code_at Unchanged p t.state.pc ≡ Some ins
   pub end : StepEnd
   pub halts : move_of d t.state ins ≡ Stops end
   pub alike : StopsAs p image d limits drawn t s end
 
 abbrev pub Begins : Program → Image → Data → Limits → ℕ → List Held → Situation → State → Type 0
-Begins p image d limits drawn names t s = ((v : Situation) × Leads p d limits.stack t v × Arrives p d limits drawn names v s) ⊎ Stopping p image d limits drawn t s
-
--- ---- words
-
-some_word : (b : Bool) (x y : PostedIns) (ys : List PostedIns) → 0 < length (if b then x ∷ [] else y ∷ ys)
-some_word true x y ys = omega arith
-some_word false x y ys = omega arith
-
--- an item has a word
-pub has_word : (function : ProgramFunction) (kind : ItemKind) → 0 < item_size Unchanged function kind
-has_word function items.Prologue = omega arith
-has_word function items.Epilogue = omega arith
-has_word function (items.Plain i) = omega arith
-has_word function (items.Li rd value) = some_word (is_short value) _ _ _
-has_word function (items.Branch op rs1 rs2 to) = omega arith
-has_word function (items.Jump to) = omega arith
-has_word function (items.Call f) = omega arith
-has_word function (items.Entry at) = omega arith
-has_word function (items.Fork f handle) = omega arith
+Begins p image d limits drawn names t s = ((v : Situation) × Leads Unchanged p d (on_stack limits.stack) t v × Arrives p d limits drawn names v s) ⊎ Stopping p image d limits drawn t s
 
 -- ---- limits
 
@@ -111,12 +97,15 @@ full_stack limits cells s o item is draw over =
 -- ---- items
 
 module _ (p : Program) (image : Image) (d : Data) (limits : Limits) (drawn : ℕ) (names : List Held) (t : Situation) (s : State) (item : Item) (pi : IsPlainImage p image) (stands : Stands p limits.stack names t s) (there : item_at p s.top ≡ Some item) where
+  size_is : IsSized Unchanged p
+  size_is = sized Unchanged p pi.accepted pi.size
+
   line_there : slice_get image.lines (word_index t.state.pc) ≡ Some item.line
   line_there =
       let st = stands.stands in
       let has = item_of p s.top st.function item st.here there in
-      let first : item_address p s.top.function st.function s.top.next + 4 * 0 ≡ t.state.pc = (let at = stands.at in omega (arith, at)) in
-      subst (λ (pc : ℕ). slice_get image.lines (word_index pc) ≡ Some item.line) first (lines_at p image s.top.function st.function s.top.next item 0 pi has (has_word st.function item.kind))
+      let first : address_in Unchanged p s.top.function st.function s.top.next + 4 * 0 ≡ t.state.pc = (let at = stands.at in omega (arith, at)) in
+      subst (λ (pc : ℕ). slice_get image.lines (word_index pc) ≡ Some item.line) first (lines_at Unchanged p image s.top.function st.function s.top.next item 0 pi has (has_word st.function item.kind))
 
   -- by the turn of the ordinary-call run
   by_turn : (turn : Turn) → step p d s ≡ turn → turn ≢ Undefined → draws item.kind ≡ 0 → overflows limits.stack item.kind s ≡ false → TurnGoes p d limits.stack names t s item turn → Begins p image d limits drawn names t s
@@ -148,9 +137,9 @@ module _ (p : Program) (image : Image) (d : Data) (limits : Limits) (drawn : ℕ
 
   prologue_begins : item.kind ≡ items.Prologue → limits.stack ≤ 1048576 → limits.stack % 16 ≡ 0 → step p d s ≢ Undefined → (full : Bool) → overflows limits.stack items.Prologue s ≡ full → Begins p image d limits drawn names t s
   prologue_begins kind few multiple defined false room =
-      alone defined (ap draws kind) (ap (λ (k : ItemKind). overflows limits.stack k s) kind ∙ room) (prologue_goes p d limits.stack names t s item pi.accepted pi.size few multiple stands there kind room)
+      alone defined (ap draws kind) (ap (λ (k : ItemKind). overflows limits.stack k s) kind ∙ room) (prologue_goes p d limits.stack names t s item pi.accepted size_is few multiple stands there kind room)
   prologue_begins kind few multiple defined true room =
-      let stop = prologue_stops p d limits.stack names t s item pi.accepted stands there kind room in
+      let stop = prologue_stops p d limits.stack names t s item pi.accepted size_is stands there kind room in
       inr (record {
         ins = stop.0;
         there = stop.1;
@@ -161,27 +150,27 @@ module _ (p : Program) (image : Image) (d : Data) (limits : Limits) (drawn : ℕ
 
   epilogue_begins : item.kind ≡ items.Epilogue → limits.stack ≤ 1048576 → limits.stack % 16 ≡ 0 → step p d s ≢ Undefined → (by : ActivationKind) → s.top.kind ≡ by → Begins p image d limits drawn names t s
   epilogue_begins kind few multiple defined Called by =
-      alone defined (ap draws kind) (ap (λ (k : ItemKind). overflows limits.stack k s) kind) (return_goes p d limits.stack names t s item pi.accepted pi.size few multiple stands there kind by)
+      alone defined (ap draws kind) (ap (λ (k : ItemKind). overflows limits.stack k s) kind) (return_goes p d limits.stack names t s item pi.accepted size_is few multiple stands there kind by)
   epilogue_begins kind few multiple defined Forked by =
-      let ended = thread_ends p d limits.stack names t s item pi.accepted pi.size few multiple stands there kind (subst IsFirst (sym by) tt) defined in
+      let ended = thread_ends p d limits.stack names t s item pi.accepted size_is few multiple stands there kind (subst IsFirst (sym by) tt) defined in
       inl (ended.0, ended.1, inl (inr ended.2))
   epilogue_begins kind few multiple defined Root by =
-      let ended = thread_ends p d limits.stack names t s item pi.accepted pi.size few multiple stands there kind (subst IsFirst (sym by) tt) defined in
+      let ended = thread_ends p d limits.stack names t s item pi.accepted size_is few multiple stands there kind (subst IsFirst (sym by) tt) defined in
       inl (ended.0, ended.1, inl (inr ended.2))
 
-  call_enters : IsEntering item.kind → Begins p image d limits drawn names t s
-  call_enters is = let entered = enters p d limits.stack names t s item pi.accepted pi.size stands there is in inl (entered.0, entered.1, inl (inl entered.2))
+  call_enters : limits.stack ≤ 1048576 → limits.stack % 16 ≡ 0 → IsEntering item.kind → Begins p image d limits drawn names t s
+  call_enters few multiple is = let entered = enters p d limits.stack names t s item pi.accepted size_is few multiple stands there is in inl (entered.0, entered.1, inl (inl entered.2))
 
   kind_begins : limits.stack ≤ 1048576 → limits.stack % 16 ≡ 0 → step p d s ≢ Undefined → (kind : ItemKind) → item.kind ≡ kind → Begins p image d limits drawn names t s
   kind_begins few multiple defined items.Prologue kind = prologue_begins kind few multiple defined (overflows limits.stack items.Prologue s) refl
   kind_begins few multiple defined items.Epilogue kind = epilogue_begins kind few multiple defined s.top.kind refl
-  kind_begins few multiple defined (items.Plain i) kind = alone defined (ap draws kind) (ap (λ (k : ItemKind). overflows limits.stack k s) kind) (line_goes p d limits.stack names t s item pi.accepted pi.size stands few multiple there (subst IsLine (sym kind) tt))
-  kind_begins few multiple defined (items.Li rd value) kind = alone defined (ap draws kind) (ap (λ (k : ItemKind). overflows limits.stack k s) kind) (line_goes p d limits.stack names t s item pi.accepted pi.size stands few multiple there (subst IsLine (sym kind) tt))
-  kind_begins few multiple defined (items.Branch op rs1 rs2 to) kind = alone defined (ap draws kind) (ap (λ (k : ItemKind). overflows limits.stack k s) kind) (line_goes p d limits.stack names t s item pi.accepted pi.size stands few multiple there (subst IsLine (sym kind) tt))
-  kind_begins few multiple defined (items.Jump to) kind = alone defined (ap draws kind) (ap (λ (k : ItemKind). overflows limits.stack k s) kind) (line_goes p d limits.stack names t s item pi.accepted pi.size stands few multiple there (subst IsLine (sym kind) tt))
-  kind_begins few multiple defined (items.Call g) kind = alone defined (ap draws kind) (ap (λ (k : ItemKind). overflows limits.stack k s) kind) (call_goes p d limits.stack names t s item g pi.accepted pi.size stands there kind)
-  kind_begins few multiple defined (items.Entry at) kind = call_enters (subst IsEntering (sym kind) tt)
-  kind_begins few multiple defined (items.Fork g handle) kind = call_enters (subst IsEntering (sym kind) tt)
+  kind_begins few multiple defined (items.Plain i) kind = alone defined (ap draws kind) (ap (λ (k : ItemKind). overflows limits.stack k s) kind) (line_goes p d limits.stack names t s item pi.accepted size_is stands few multiple there (subst IsLine (sym kind) tt))
+  kind_begins few multiple defined (items.Li rd value) kind = alone defined (ap draws kind) (ap (λ (k : ItemKind). overflows limits.stack k s) kind) (line_goes p d limits.stack names t s item pi.accepted size_is stands few multiple there (subst IsLine (sym kind) tt))
+  kind_begins few multiple defined (items.Branch op rs1 rs2 to) kind = alone defined (ap draws kind) (ap (λ (k : ItemKind). overflows limits.stack k s) kind) (line_goes p d limits.stack names t s item pi.accepted size_is stands few multiple there (subst IsLine (sym kind) tt))
+  kind_begins few multiple defined (items.Jump to) kind = alone defined (ap draws kind) (ap (λ (k : ItemKind). overflows limits.stack k s) kind) (line_goes p d limits.stack names t s item pi.accepted size_is stands few multiple there (subst IsLine (sym kind) tt))
+  kind_begins few multiple defined (items.Call g) kind = alone defined (ap draws kind) (ap (λ (k : ItemKind). overflows limits.stack k s) kind) (call_goes p d limits.stack names t s item g pi.accepted size_is few multiple stands there kind)
+  kind_begins few multiple defined (items.Entry at) kind = call_enters few multiple (subst IsEntering (sym kind) tt)
+  kind_begins few multiple defined (items.Fork g handle) kind = call_enters few multiple (subst IsEntering (sym kind) tt)
 
 no_item : (p : Program) (d : Data) (s : State) → item_at p s.top ≡ None → step p d s ≡ Undefined
 unfolding step

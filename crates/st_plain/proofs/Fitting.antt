@@ -15,7 +15,8 @@ use Rattle.st_plain.specs.declared.cells.Cell.{Cell}
 use Rattle.st_plain.specs.declared.cells.Cell.TheVariants.{Future as FutureCell, Counter as CounterCell}
 use Rattle.st_plain.specs.Threads.{Came, HasMade, CounterCame, NameCame, CellFits, AllFit, AllCounted, AreLastForks, NamesStand}
 use Rattle.st_plain.proofs.Rests.{forked_rest, ended_rest, counter_rest, added_rest}
-use Rattle.st_plain.proofs.Growing.{get_front, get_cases}
+use Rattle.st_items.proofs.Words.{get_front}
+use Rattle.st_plain.proofs.Growing.{get_cases}
 use Rattle.st_plain.proofs.Came.{came_next, came_child, came_parent}
 use Rattle.st_plain.proofs.Values.{value_kept, NotAmong, count_made, count_other}
 

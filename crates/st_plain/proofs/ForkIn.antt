@@ -1,7 +1,7 @@
 -- The entry that makes a thread, from what it does with the notes and the cells to what the ordinary-call run does: behind it the fork's second jump
 -- calls the function (fork_goes), unless no cell is left (fork_full). The table has the fork's register
 -- (fork_inside).
-use Rattle.std.proofs.Common.{◌≡◌, inr, ℕ, ◌+◌, ◌-◌, ◌*◌, ◌<◌, true, false, List, [], ◌∷◌, ◌++◌, length, length-append, Option, Some, None, slice_get, refl, ap, sym, ◌∙◌, subst, arith}
+use Rattle.std.proofs.Common.{◌≡◌, inr, ℕ, ◌+◌, ◌-◌, ◌<◌, true, false, List, [], ◌∷◌, ◌++◌, length, length-append, Option, Some, None, slice_get, refl, ap, sym, ◌∙◌, subst, arith}
 use Rattle.std.specs.Prelude.{nat_lt, reverse, replicate}
 use Rattle.std.proofs.lemmas.Bool.{ltb-true}
 use Rattle.st_base.specs.declared.image.Image.{Image}
@@ -14,7 +14,6 @@ use Rattle.st_base.specs.declared.thread.ActivationKind.TheVariants.{Forked}
 use Rattle.st_base.specs.declared.thread.Held.{Held}
 use Rattle.st_base.specs.declared.thread.Held.TheVariants.{Future}
 use Rattle.st_base.specs.Registers.{picked}
-use Rattle.st_rv.specs.declared.ins.Op.TheVariants as ops
 use Rattle.st_model.specs.declared.code.Layout.TheVariants.{Unchanged}
 use Rattle.st_model.specs.declared.ordinary.State.{State}
 use Rattle.st_model.specs.declared.ordinary.Turn.TheVariants.{Goes}
@@ -23,7 +22,7 @@ use Rattle.st_model.specs.declared.program.ItemKind.TheVariants as items
 use Rattle.st_model.specs.declared.program.Program.{Program}
 use Rattle.st_model.specs.declared.program.ProgramFunction.{ProgramFunction}
 use Rattle.st_model.specs.Effect.{advanced, entered, fork_into}
-use Rattle.st_model.specs.Layout.{item_size, upper_ins, function_address}
+use Rattle.st_model.specs.Layout.{item_size}
 use Rattle.st_model.specs.Memory.{Data}
 use Rattle.st_model.specs.Ordinary.{step, apply}
 use Rattle.st_model.proofs.Ending.{step_ordered}
@@ -33,22 +32,24 @@ use Rattle.st_plain.specs.declared.cells.Cell.TheVariants.{Future as FutureCell}
 use Rattle.st_plain.specs.declared.cells.Note.{Note}
 use Rattle.st_plain.specs.declared.run.PlainRun.{PlainRun}
 use Rattle.st_plain.specs.declared.stop.Ending.TheVariants as endings
-use Rattle.st_plain.specs.Code.{word_index, item_address, handles_of, HasItem}
-use Rattle.st_step.specs.Frames.{value_in, IsFork}
-use Rattle.st_plain.specs.Running.{HasTables, IsAtEntry, OnWay, GoesOn, EndsBy}
-use Rattle.st_plain.specs.Standing.{on_stack, situation, IsMachine, Stands}
+use Rattle.st_items.specs.Code.{word_index, HasItem}
+use Rattle.st_items.specs.Tables.{handles_of}
+use Rattle.st_items.specs.Ways.{Makes, OnWay}
+use Rattle.st_plain.specs.Running.{HasTables, IsAtEntry, GoesOn, EndsBy}
+use Rattle.st_plain.specs.Standing.{on_stack, situation, Stands, AtCall}
 use Rattle.st_plain.specs.Threads.{NotesStand, forked_notes}
-use Rattle.st_plain.proofs.Addresses.{next_address}
-use Rattle.st_plain.proofs.AtEntry.{IsForking, forking, back_low, back_word}
-use Rattle.st_plain.proofs.GoingBack.{call_grows, goes_by}
-use Rattle.st_plain.proofs.Jumps.{JumpsTo, fork_call_jumps}
-use Rattle.st_plain.proofs.KeptFiles.{file_over}
-use Rattle.st_plain.proofs.Linking.{linked, link_goes, linked_other, linked_ra, linked_machine, linked_stay, frames_over, stands_entered}
+use Rattle.st_items.proofs.Addresses.{sized}
+use Rattle.st_plain.proofs.AtEntry.{IsForking, forking, back_word}
+use Rattle.st_plain.proofs.GoingBack.{goes_by}
+use Rattle.st_plain.proofs.Growing.{call_grows}
+use Rattle.st_plain.proofs.OnItems.{OlderThan, ends_at, are_ends, body_of, older_sees, at_entry, stands_entered}
+use Rattle.st_items.proofs.Linking.{Entering, fork_back, fork_enters}
+use Rattle.st_items.specs.Called.{IsAtSecond}
+use Rattle.st_plain.specs.Frames.{by_place}
 use Rattle.st_plain.proofs.Naming.{after_fork}
 use Rattle.st_plain.proofs.RunEnds.{cells_end, cells_left}
 use Rattle.st_plain.proofs.RunningThread.{within_list, notes_forked}
-use Rattle.st_plain.proofs.Tables.{handle_at}
-use Rattle.st_plain.proofs.Turns.{begun}
+use Rattle.st_items.proofs.Tables.{handle_at}
 
 fork_size : (function : ProgramFunction) (kind : ItemKind) (g : ℕ) (handle : Reg) → kind ≡ items.Fork g handle → item_size Unchanged function kind ≡ 3
 fork_size function kind g handle is = ap (item_size Unchanged function) is
@@ -66,7 +67,7 @@ module _ (p : Program) (d : Data) (image : Image) (limits : Limits) (r r' : Plai
       let word = back_word p limits.stack names (situation r.machine r.board.words.stack) s making.at in
       ap (λ (table : List Reg). slice_get table (word_index (register r.machine registers.Ra - 4))) tables.handles
       ∙ ap (λ (n : ℕ). slice_get (handles_of image.forks (replicate (length image.words) registers.Zero)) (word_index n)) word
-      ∙ handle_at p image s.top.function making.at.stands.function s.top.next making.at.item making.f making.handle tables.is_plain has_fork making.kind
+      ∙ handle_at Unchanged p image s.top.function making.at.stands.function s.top.next making.at.item making.f making.handle tables.is_plain has_fork making.kind
 
   pub fork_inside : word_index (register r.machine registers.Ra - 4) < length r.code.handles.items
   fork_inside = within_list r.code.handles.items (word_index (register r.machine registers.Ra - 4)) making.handle fork_handle
@@ -96,57 +97,47 @@ module _ (p : Program) (d : Data) (image : Image) (limits : Limits) (r r' : Plai
   unfolding next
   fork_steps = making.steps ∙ ap (λ (o : Option ProgramFunction). apply s.rest making.at.item.line (fork_into making.f making.handle o s.top s.registers)) callee_is
 
-  -- the fork's second jump, and where it leads
-  before : Situation
+  -- ---- the fork's second jump, under one more name
+
+  abbrev more : List Held
+  more = names ++ Future (s.rest.thread.path ++ s.rest.thread.forks ∷ []) ∷ []
+
+  abbrev here : Situation
+  here = situation r.machine r.board.words.stack
+
+  abbrev before : Situation
   before = situation (at_place (register r.machine registers.Ra) r.machine) r.board.words.stack
 
-  machine_before : IsMachine limits.stack before
-  unfolding before
-  machine_before =
-      let machine = making.at.stands.machine in
-      record { has_registers = record { count = machine.has_registers.count; origin = machine.has_registers.origin }; values = machine.values; words = machine.words; lo = machine.lo; hi = machine.hi; above = machine.above }
+  abbrev grown : AtCall p limits.stack more here s
+  grown = call_grows names (Future (s.rest.thread.path ++ s.rest.thread.forks ∷ []) ∷ []) p limits.stack here s making.begun making.at
 
-  behind : Situation
-  unfolding before
-  behind = linked before (function_address Unchanged p making.f)
+  second : IsAtSecond Unchanged p (by_place more) (OlderThan p limits.stack more here s) (ends_at here) (register r.machine registers.Sp) before s.top s.registers making.at.stands.function making.at.item making.f making.handle
+  second =
+      fork_back Unchanged p (by_place more) (OlderThan p limits.stack more here s) (ends_at here) (register r.machine registers.Sp) here s.top s.registers making.at.stands.function making.at.item making.f making.handle r.machine.pc tables.is_plain.accepted
+      (sized Unchanged p tables.is_plain.accepted tables.is_plain.size) has_fork making.kind (older_sees p limits.stack more here s tables.is_plain.accepted grown.stands making.begun) (at_entry p limits.stack more here s grown making.begun)
 
-  fork_way : OnWay p d limits.stack 1 before behind
-  unfolding behind
+  -- where it leads
+  enters : (u : Situation) × Makes Unchanged p d (on_stack limits.stack) before u × (u.word ≡ before.word) × Entering Unchanged p (by_place more) (OlderThan p limits.stack more here s) (ends_at here) (register r.machine registers.Sp) u s.top s.registers making.at.stands.function Forked making.f callee
+  enters = fork_enters Unchanged p d (on_stack limits.stack) (by_place more) (OlderThan p limits.stack more here s) (ends_at here) (register r.machine registers.Sp) before s.top s.registers making.at.stands.function making.at.item making.f making.handle callee second callee_is
+
+  fork_way : OnWay Unchanged p d (on_stack limits.stack) 1 before enters.0
   fork_way =
       let function = making.at.stands.function in
-      let back = making.at.back in
       let size = fork_size function making.at.item.kind making.f making.handle making.kind in
-      let jump = fork_call_jumps p s.top.function function s.top.next making.at.item making.f making.handle tables.is_plain.size has_fork making.kind in
-      let jumps : JumpsTo p (register r.machine registers.Ra) registers.Ra (function_address Unchanged p making.f) = subst (λ (pc : ℕ). JumpsTo p pc registers.Ra (function_address Unchanged p making.f)) (sym back) jump in (
-        inr (record { f = s.top.function; function = function; i = s.top.next; item = making.at.item; has = has_fork; k = 1; some = omega arith; few = omega (arith, size); at = back ∙ (let e : item_address p s.top.function function s.top.next + 4 ≡ item_address p s.top.function function s.top.next + 4 * 1 = omega arith in e) }),
-        (behind, record { ins = upper_ins ops.Jal registers.Ra jumps.distance; there = jumps.there; goes = link_goes d (on_stack limits.stack) before jumps.distance (function_address Unchanged p making.f) jumps.goes }, refl),
-      )
+      let at = second.at in
+      (inr (record { f = s.top.function; function = function; i = s.top.next; item = making.at.item; has = has_fork; k = 1; some = omega arith; few = omega (arith, size); at = omega (arith, at) }), (enters.0, enters.1, refl))
 
-  fork_stands : Stands p limits.stack (names ++ Future (s.rest.thread.path ++ s.rest.thread.forks ∷ []) ∷ []) behind next
-  unfolding behind next
+  fork_stands : Stands p limits.stack more enters.0 next
+  unfolding next
   fork_stands =
-      let more = Future (s.rest.thread.path ++ s.rest.thread.forks ∷ []) ∷ [] in
-      let t = situation r.machine r.board.words.stack in
-      let function = making.at.stands.function in
-      let grown = call_grows names more p limits.stack t s making.begun making.at in
-      let target = function_address Unchanged p making.f in
-      let low = back_low p limits.stack names t s tables.is_plain.size making.at in
-      let back = making.at.back in
-      let ra = linked_ra limits.stack before target machine_before in
-      let size = fork_size function making.at.item.kind making.f making.handle making.kind in
-      let further = next_address p s.top.function function s.top.next making.at.item has_fork in
-      let frames = begun p limits.stack (names ++ more) t function s s.top.next making.begun grown.stands.frames in
-      let placed : slice_get function.items (s.top.next + 1 - 1) ≡ Some making.at.item = ap (slice_get function.items) (let e : s.top.next + 1 - 1 ≡ s.top.next = omega arith in e) ∙ making.at.placed in
-      stands_entered p limits.stack (names ++ more) behind s function callee making.f Forked next.rest making.at.stands.here callee_is (linked_machine limits.stack before target (omega (arith, low.1)) machine_before)
-      (file_over (names ++ more) s.registers (value_in r.machine) (value_in behind.state) making.at.stands.frameless (λ x not_ra not_sp not_fp. sym (linked_other before target x not_ra)) grown.stands.file)
-      (frames_over p limits.stack (names ++ more) before.state behind.state t.word function s tables.is_plain.accepted (linked_stay before target) frames)
-      (omega (arith, ra, back, further, size), (making.at.item, placed, subst IsFork {x = items.Fork making.f making.handle} {y = making.at.item.kind} (sym making.kind) tt)) refl tt refl refl refl
+      let base = (body_of p limits.stack more here s grown.stands making.begun).framed.base in
+      stands_entered p limits.stack more (ends_at here) (register r.machine registers.Sp) (register r.machine registers.S0) enters.0 next making.at.stands.function callee (advanced s.top) s.rest.older s.rest.parents enters.3.0 (are_ends limits.stack here making.at.stands.machine) refl base refl tt refl enters.3.1
 
   pub fork_goes : (handle : Reg) → slice_get r.code.handles.items (word_index (register r.machine registers.Ra - 4)) ≡ Some handle → nat_lt (length r.threads.cells.items.items) r.threads.cells.most ≡ true
       → r'.machine ≡ at_place (register r.machine registers.Ra) r.machine → r'.board.words.stack ≡ r.board.words.stack
       → r'.threads.cells.items.items ≡ r.threads.cells.items.items ++ FutureCell None ∷ [] → reverse r'.threads.notes.items.items ≡ forked_notes (length r.threads.cells.items.items) handle (reverse r.threads.notes.items.items)
       → r'.threads.out.items.items ≡ r.threads.out.items.items → GoesOn p d limits (length r.threads.cells.items.items) r' s
-  unfolding before next
+  unfolding next
   fork_goes handle there room machine_is words_are cells_are notes_are out_is =
       let kept = entry.kept in
       let cells = r.threads.cells.items.items in
@@ -158,7 +149,7 @@ module _ (p : Program) (d : Data) (image : Image) (limits : Limits) (r r' : Plai
       let most = tables.most in
       let long = length-append cells (FutureCell None ∷ []) in
       let one = making.drawn in
-      goes_by p d limits (length cells) r' s next (names ++ name ∷ []) 1 behind m r.board.words.stack (cells ++ FutureCell None ∷ []) r.threads.out.items.items
+      goes_by p d limits (length cells) r' s next (names ++ name ∷ []) 1 enters.0 m r.board.words.stack (cells ++ FutureCell None ∷ []) r.threads.out.items.items
       (cells_left p limits (length cells) r.threads.cells.most (length s.top.bytes) s (making.limit (length cells)) most room) fork_steps kept.handles (omega arith) fork_way fork_stands
       (after_fork names cells s.rest next.rest making.handle kept.stand refl (step_ordered p d s next kept.stand.ordered fork_steps))
       (subst (λ (notes : List Note). NotesStand (names ++ name ∷ []) notes (next.rest.thread ∷ next.rest.parents)) (sym notes_are)

@@ -1,5 +1,5 @@
 -- Where frames stand on the stack: the older activations' frames end at its high end (below_sum), and each base is a multiple of 16
--- (below_multiple). So a frame has a base as the laws of frames ask (stack_base), and all its words are held (holds_frame).
+-- (below_multiple). All words of a frame are held (holds_frame).
 use Rattle.std.proofs.Common.{◌≡◌, ℕ, zero, suc, ◌+◌, ◌/◌, ◌<◌, ◌≤◌, List, [], ◌∷◌, length, refl, ap, ◌∙◌, arith}
 use Rattle.std.specs.Prelude.{◌%◌}
 use Rattle.std.proofs.lemmas.Bool.{lt-ltb}
@@ -12,7 +12,7 @@ use Rattle.st_model.specs.Accepted.{IsAccepted, HasFrame}
 use Rattle.st_model.specs.Bounded.{frame_held, frames_held}
 use Rattle.st_model.specs.Effect.{File}
 use Rattle.st_model.specs.Layout.{saved_of}
-use Rattle.st_step.specs.Runs.{IsBase, HoldsFrame, return_word, caller_word}
+use Rattle.st_step.specs.Runs.{HoldsFrame, return_word, caller_word}
 use Rattle.st_step.specs.Frames.{with_saved_values}
 use Rattle.st_plain.specs.Frames.{parents_below, Below}
 use Rattle.st_plain.specs.Standing.{stack_start, on_stack}
@@ -40,10 +40,6 @@ below_multiple p names word high value low fp ret kind kept (a ∷ older) parent
     let base = caller.base in
     let multiple = frame.multiple in
     omega arith
-
--- a base of a frame on the stack: at most its high end
-pub stack_base : (stack bytes b : ℕ) → stack ≤ 1048576 → b % 16 ≡ 0 → b ≤ stack_start + stack → stack_start + bytes ≤ b → IsBase stack_start bytes b
-stack_base stack bytes b few multiple high room = record { multiple = multiple; stack = omega arith; room = room; high = omega arith }
 
 pub holds_frame : (stack bytes b : ℕ) → b ≤ stack_start + stack → HoldsFrame (on_stack stack) bytes b
 holds_frame stack bytes b high = λ q from to. let inside : q < stack / 8 = omega arith in lt-ltb q (stack / 8) inside

@@ -1,27 +1,25 @@
--- Lists that grow at their end, and what stands under names that grow: a name keeps its number. Read held_grows (a register or a slot),
--- files_grow, slots_grow, below_grows (the older activations) and stands_in_grows (the whole machine).
-use Rattle.std.proofs.Common.{◌≡◌, ℕ, zero, suc, List, [], ◌∷◌, ◌++◌, length, Some, slice_get, refl, ap, inl, inr, ◌⊎◌}
-use Rattle.st_base.specs.declared.thread.Held.{Held}
-use Rattle.st_base.specs.declared.thread.Held.TheVariants.{Number, Future, Counter}
+-- Lists that grow at their end, and names that do: a name keeps its number, so that what is older than an activation stands under more names
+-- (stacked_widens), and a run at an entry does (call_grows).
+use Rattle.std.proofs.Common.{◌≡◌, ℕ, zero, suc, ◌<◌, List, [], ◌∷◌, ◌++◌, length, Some, slice_get, refl, ap, inl, inr, ◌⊎◌}
+use Rattle.st_base.specs.declared.reg.Reg.TheVariants as registers
 use Rattle.st_base.specs.declared.thread.Activation.{Activation}
-use Rattle.st_base.specs.declared.thread.ActivationKind.{ActivationKind}
-use Rattle.st_model.specs.declared.program.Program.{Program}
-use Rattle.st_model.specs.declared.program.ProgramFunction.{ProgramFunction}
-use Rattle.st_model.specs.declared.ordinary.Tally.{Tally}
-use Rattle.st_model.specs.Effect.{File}
-use Rattle.st_model.specs.Layout.{saved_of}
+use Rattle.st_base.specs.declared.thread.Held.{Held}
+use Rattle.st_model.specs.declared.code.Layout.TheVariants.{Unchanged}
 use Rattle.st_model.specs.declared.ordinary.State.{State}
+use Rattle.st_model.specs.declared.ordinary.Tally.{Tally}
+use Rattle.st_model.specs.declared.program.Program.{Program}
+use Rattle.st_model.specs.Layout.{saved_of}
+use Rattle.st_step.specs.Frames.{with_saved_values}
+use Rattle.st_step.specs.Moves.{register}
 use Rattle.st_step.specs.Runs.{Situation, return_word, caller_word}
-use Rattle.st_plain.specs.Standing.{HasFrames, StandsIn}
-use Rattle.st_step.specs.Frames.{value_in, with_saved_values}
-use Rattle.st_plain.specs.Frames.{IsHeldAs, HasFile, HasSlots, IsCaller, parents_below, Below}
+use Rattle.st_items.specs.Body.{Grows, Widens}
+use Rattle.st_items.proofs.Growing.{caller_grows, body_grows}
+use Rattle.st_items.proofs.Words.{get_front}
+use Rattle.st_plain.specs.Frames.{by_place, parents_below}
+use Rattle.st_plain.specs.Standing.{AtCall}
+use Rattle.st_plain.proofs.OnItems.{Stacked, OlderThan, ends_at, are_ends, body_of, stands_in}
 
 -- ---- lists
-
-pub get_front : {A : Type 0} (xs more : List A) (n : ℕ) (x : A) → slice_get xs n ≡ Some x → slice_get (xs ++ more) n ≡ Some x
-get_front [] more n x e = let no : ⊥ = cc in absurd no
-get_front (y ∷ xs) more zero x e = e
-get_front (y ∷ xs) more (suc n) x e = get_front xs more n x e
 
 pub get_new : {A : Type 0} (xs : List A) (x : A) → slice_get (xs ++ x ∷ []) (length xs) ≡ Some x
 get_new [] x = refl
@@ -33,57 +31,30 @@ get_cases [] y x (suc n) e = let no : ⊥ = cc in absurd no
 get_cases (z ∷ xs) y x zero e = inl e
 get_cases (z ∷ xs) y x (suc n) e = elim (get_cases xs y x n e) [ inl old ↦ inl old | inr new ↦ inr (ap suc new.0, new.1) ]
 
--- ---- activations
+-- ---- names
 
 module _ (names more : List Held) where
-  pub held_grows : (held : Held) (n : ℕ) → IsHeldAs names held n → IsHeldAs (names ++ more) held n
-  held_grows (Number k) n h = h
-  held_grows (Future path) n h = get_front names more n (Future path) h
-  held_grows (Counter maker k) n h = get_front names more n (Counter maker k) h
+  pub names_grow : Grows (by_place names) (by_place (names ++ more))
+  names_grow held n there = get_front names more n held there
 
-  pub files_grow : (file : File) (value : ℕ → ℕ) → HasFile names file value → HasFile (names ++ more) file value
-  files_grow file value h x held e = held_grows held (value x) (h x held e)
-
-  pub slots_grow : (function : ProgramFunction) (a : Activation) (word : ℕ → ℕ) (low : ℕ) → HasSlots names function a word low → HasSlots (names ++ more) function a word low
-  slots_grow function a word low h =
-      record { bytes_long = h.bytes_long; handles_long = h.handles_long; bytes = h.bytes; handles = λ k held less e. held_grows held _ (h.handles k held less e) }
-
-  caller_grows : (p : Program) (word value : ℕ → ℕ) (low fp ret : ℕ) (kind : ActivationKind) (kept : File) (a : Activation) (function : ProgramFunction) → IsCaller p names word value low fp ret kind kept a function
-      → IsCaller p (names ++ more) word value low fp ret kind kept a function
-  caller_grows p word value low fp ret kind kept a function h =
-      record {
-        here = h.here;
-        begun = h.begun;
-        base = h.base;
-        back = h.back;
-        file = files_grow kept value h.file;
-        long = h.long;
-        holds = h.holds;
-        slots = slots_grow function a word low h.slots;
-      }
-
-  pub below_grows : (p : Program) (word : ℕ → ℕ) (high : ℕ) (value : ℕ → ℕ) (low fp ret : ℕ) (kind : ActivationKind) (kept : File) (older : List Activation) (parents : List Tally)
-      → Below p names word high value low fp ret kind kept older parents → Below p (names ++ more) word high value low fp ret kind kept older parents
-  below_grows p word high value low fp ret kind kept [] parents h = h
-  below_grows p word high value low fp ret kind kept (a ∷ older) parents h = (
-    h.0,
-    caller_grows p word value low fp ret kind kept a h.0 h.1,
-    h.2,
-    below_grows p word high (with_saved_values word fp 0 (saved_of h.0) value) fp (word (caller_word fp)) (word (return_word fp)) a.kind a.kept older (parents_below kind parents) h.3,
+  pub stacked_widens : (p : Program) (stack low : ℕ) (older : List Activation) (parents : List Tally) → Widens (Stacked p stack names low older parents) (Stacked p stack (names ++ more) low older parents)
+  stacked_widens p stack low [] parents kind kept word value fp ret below = below
+  stacked_widens p stack low (a ∷ older) parents kind kept word value fp ret (function, caller, has_parent, below) = (
+    function,
+    caller_grows (by_place names) (by_place (names ++ more)) names_grow Unchanged p word value low fp ret kind kept a function caller,
+    has_parent,
+    stacked_widens p stack fp older (parents_below kind parents) a.kind a.kept word (with_saved_values word fp 0 (saved_of function) value) (word (caller_word fp)) (word (return_word fp)) below,
   )
 
-  frames_grow : (p : Program) (stack : ℕ) (t : Situation) (function : ProgramFunction) (s : State) (next : ℕ) → HasFrames p stack names t function s next → HasFrames p stack (names ++ more) t function s next
-  frames_grow p stack t function s zero h = (h.0, h.1, below_grows p t.word _ _ _ _ _ s.top.kind s.top.kept s.rest.older s.rest.parents h.2)
-  frames_grow p stack t function s (suc next) h =
-      (h.0, slots_grow function s.top t.word _ h.1, below_grows p t.word _ _ _ _ _ s.top.kind s.top.kept s.rest.older s.rest.parents h.2)
-
-  pub stands_in_grows : (p : Program) (stack : ℕ) (t : Situation) (s : State) → StandsIn p stack names t s → StandsIn p stack (names ++ more) t s
-  stands_in_grows p stack t s h =
-      record {
-        function = h.function;
-        here = h.here;
-        machine = h.machine;
-        file = files_grow s.registers (value_in t.state) h.file;
-        frameless = h.frameless;
-        frames = frames_grow p stack t h.function s s.top.next h.frames;
-      }
+  abbrev pub call_grows : (p : Program) (stack : ℕ) (t : Situation) (s : State) → 0 < s.top.next → AtCall p stack names t s → AtCall p stack (names ++ more) t s
+  call_grows p stack t s begun at = record {
+    stands =
+        stands_in p stack (names ++ more) (ends_at t) (register t.state registers.Sp) (register t.state registers.S0) t s at.stands.function (are_ends stack t at.stands.machine) refl (body_of p stack names t s at.stands begun).framed.base begun
+        (body_grows (by_place names) (by_place (names ++ more)) names_grow (OlderThan p stack names t s) (OlderThan p stack (names ++ more) t s) (stacked_widens p stack (register t.state registers.S0) s.rest.older s.rest.parents) p (ends_at t) (register t.state registers.Sp) t s.top s.registers at.stands.function
+        (body_of p stack names t s at.stands begun));
+    item = at.item;
+    placed = at.placed;
+    enters = at.enters;
+    back = at.back;
+    whole = at.whole;
+  }

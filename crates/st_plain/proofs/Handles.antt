@@ -1,6 +1,6 @@
 -- The runtime calls on futures and counters: from what they do with the machine and the cells to what the ordinary-call run does. Read
 -- touch_goes, counter_goes, done_goes and join_goes, and beside them how each ends a run.
-use Rattle.std.proofs.Common.{◌≡◌, ℕ, ◌+◌, ◌-◌, ◌^◌, ◌<◌, ◌≤◌, Bool, true, false, List, [], ◌∷◌, ◌++◌, length, length-append, Option, Some, None, slice_get, slice_set, refl, ap, sym, ◌∙◌, subst, arith}
+use Rattle.std.proofs.Common.{◌≡◌, ℕ, ◌+◌, ◌-◌, ◌^◌, ◌<◌, ◌≤◌, Bool, true, false, List, [], ◌∷◌, ◌++◌, length, length-append, Option, Some, None, slice_get, slice_set, refl, ap, sym, ◌∙◌, subst, arith, inl, inr}
 use Rattle.std.specs.Prelude.{nat_lt, reverse}
 use Rattle.std.proofs.lemmas.Bool.{ltb-true}
 use Rattle.std.proofs.lemmas.List.{length-set}
@@ -34,16 +34,16 @@ use Rattle.st_plain.specs.declared.cells.Cell.TheVariants.{Future as FutureCell,
 use Rattle.st_plain.specs.declared.cells.Note.{Note}
 use Rattle.st_plain.specs.declared.run.PlainRun.{PlainRun}
 use Rattle.st_plain.specs.declared.stop.Ending.TheVariants as endings
-use Rattle.st_plain.specs.Code.{word_index}
+use Rattle.st_items.specs.Code.{word_index}
 use Rattle.st_plain.specs.Frames.{IsHeldAs}
 use Rattle.st_plain.specs.Running.{HasTables, IsAtEntry, GoesOn, EndsBy}
 use Rattle.st_plain.specs.Standing.{situation}
 use Rattle.st_plain.specs.Threads.{NamesStand, NotesStand, counted_notes}
 use Rattle.st_plain.proofs.AtEntry.{IsCalling, calling, no_limit, back_line}
-use Rattle.st_plain.proofs.GoingBack.{goes_by, call_grows, kept_stands, written_stands}
-use Rattle.st_plain.proofs.Growing.{get_new}
+use Rattle.st_plain.proofs.GoingBack.{goes_by, kept_stands, written_stands}
+use Rattle.st_plain.proofs.Growing.{get_new, call_grows}
 use Rattle.st_plain.proofs.Naming.{fits_length, value_there, count_there, after_counter, after_add}
-use Rattle.st_plain.proofs.Registers.{IsApart}
+use Rattle.st_items.proofs.Registers.{IsApart, body_apart}
 use Rattle.st_plain.proofs.RunEnds.{trap_ends, waits_end, cells_end, cells_left}
 use Rattle.st_plain.proofs.RunningThread.{within_list, notes_counted}
 
@@ -102,10 +102,10 @@ cell_counter names cells rest n (Counter maker k) count stand is at cell =
 -- ---- registers of calls
 
 pub a0_apart : IsApart registers.A0
-a0_apart = record { ra = λ e. omega arith; sp = λ e. omega arith; fp = λ e. omega arith }
+a0_apart = body_apart registers.A0 (inl refl)
 
 pub a6_apart : IsApart registers.A6
-a6_apart = record { ra = λ e. omega arith; sp = λ e. omega arith; fp = λ e. omega arith }
+a6_apart = body_apart registers.A6 (inr refl)
 
 a0_written : (function : ProgramFunction) → MayWrite function registers.A0
 a0_written function = ((λ e. absurd (omega (arith, e))), (λ e. absurd (let never : ⊥ = cc in never)))
@@ -158,7 +158,7 @@ module _ (p : Program) (d : Data) (image : Image) (limits : Limits) (r r' : Plai
         goes_by p d limits (length r.threads.cells.items.items) r' s (record { top = advanced s.top; registers = write_register (picked Saved s.registers) registers.A0 (Number v); rest = s.rest }) names 0
         (situation (at_place (register r.machine registers.Ra) (written r.machine registers.A0 v)) r.board.words.stack) (at_place (register r.machine registers.Ra) (written r.machine registers.A0 v)) r.board.words.stack r.threads.cells.items.items r.threads.out.items.items
         (touching.limit (length r.threads.cells.items.items) ∙ no_limit (limits.cells - length r.threads.cells.items.items) (length s.top.bytes)) (touch_steps (Some v) cell) kept.handles (omega arith) refl
-        (written_stands p limits.stack names (situation r.machine r.board.words.stack) s registers.A0 v (Number v) s.rest tables.is_plain.accepted touching.at touching.size touching.begun a0_apart a0_written less refl refl refl)
+        (written_stands p limits.stack names (situation r.machine r.board.words.stack) s registers.A0 v (Number v) s.rest tables.is_plain.accepted touching.at touching.size touching.begun (inl refl) a0_written less refl refl refl)
         kept.stand (subst (λ (threads : _). NotesStand names (reverse threads.notes.items.items) (s.rest.thread ∷ s.rest.parents)) (sym threads_are) kept.notes_stand) kept.printed kept.few_cells kept.few_bytes (let none = touching.drawn in omega (arith, none)) machine_is words_are
         (ap (λ threads. threads.cells.items.items) threads_are) (ap (λ threads. threads.out.items.items) threads_are)
 
@@ -202,7 +202,7 @@ module _ (p : Program) (d : Data) (image : Image) (limits : Limits) (r r' : Plai
         let grown = call_grows names (name ∷ []) p limits.stack t s counting.begun counting.at in
         goes_by p d limits n r' s next (names ++ name ∷ []) 0 (situation m r.board.words.stack) m r.board.words.stack (cells ++ CounterCell 0 ∷ []) r.threads.out.items.items
         (cells_left p limits n r.threads.cells.most (length s.top.bytes) s (counting.limit n) most room) counting.steps kept.handles (omega arith) refl
-        (written_stands p limits.stack (names ++ name ∷ []) t s registers.A6 n name next.rest tables.is_plain.accepted grown counting.size counting.begun a6_apart a6_written (omega arith) there refl refl)
+        (written_stands p limits.stack (names ++ name ∷ []) t s registers.A6 n name next.rest tables.is_plain.accepted grown counting.size counting.begun (inr refl) a6_written (omega arith) there refl refl)
         (after_counter names cells s.rest next.rest kept.stand refl)
         (subst (λ (notes : List Note). NotesStand (names ++ name ∷ []) notes (next.rest.thread ∷ next.rest.parents)) (sym notes_are) (notes_counted names (reverse r.threads.notes.items.items) s.rest next.rest kept.notes_stand refl))
         kept.printed (omega (arith, long, inside, most)) kept.few_bytes (let one = counting.drawn in omega (arith, one, long)) machine_is words_are cells_are out_is
@@ -242,7 +242,7 @@ module _ (p : Program) (d : Data) (image : Image) (limits : Limits) (r r' : Plai
         let few = kept.few_cells in
         goes_by p d limits (length cells) r' s next names 0 (situation m r.board.words.stack) m r.board.words.stack (slice_set cells n (CounterCell (counted count))) r.threads.out.items.items
         (adding.limit (length cells) ∙ no_limit (limits.cells - length cells) (length s.top.bytes)) (name.3 ∙ ap (λ (h : Held). added s.rest adding.at.item.line h (advanced s.top) (picked Saved s.registers)) counter.2) kept.handles (omega arith) refl
-        (kept_stands p limits.stack names t s next.rest tables.is_plain.accepted adding.at adding.size adding.begun refl refl)
+        (kept_stands p limits.stack names t s next.rest adding.at adding.size adding.begun refl refl)
         (after_add names cells s.rest next.rest counter.0 counter.1 n count kept.stand refl (name.2 ∙ ap (λ (h : Held). Some h) counter.2) cell)
         (subst (λ (notes : List Note). NotesStand names (reverse notes) (next.rest.thread ∷ next.rest.parents)) (sym notes_are) kept.notes_stand)
         kept.printed (omega (arith, long, few)) kept.few_bytes (let none = adding.drawn in omega (arith, none, long)) machine_is words_are cells_are out_is
@@ -300,7 +300,7 @@ module _ (p : Program) (d : Data) (image : Image) (limits : Limits) (r r' : Plai
         let m = at_place (register r.machine registers.Ra) r.machine in
         goes_by p d limits (length cells) r' s (record { top = advanced s.top; registers = picked Saved s.registers; rest = s.rest }) names 0 (situation m r.board.words.stack) m r.board.words.stack cells r.threads.out.items.items
         (joining.limit (length cells) ∙ no_limit (limits.cells - length cells) (length s.top.bytes)) (join_steps count false cell is) kept.handles (omega arith) refl
-        (kept_stands p limits.stack names (situation r.machine r.board.words.stack) s s.rest tables.is_plain.accepted joining.at joining.size joining.begun refl refl)
+        (kept_stands p limits.stack names (situation r.machine r.board.words.stack) s s.rest joining.at joining.size joining.begun refl refl)
         kept.stand (subst (λ (threads : _). NotesStand names (reverse threads.notes.items.items) (s.rest.thread ∷ s.rest.parents)) (sym threads_are) kept.notes_stand) kept.printed kept.few_cells kept.few_bytes (let none = joining.drawn in omega (arith, none)) machine_is words_are
         (ap (λ threads. threads.cells.items.items) threads_are) (ap (λ threads. threads.out.items.items) threads_are)
 

@@ -27,11 +27,14 @@ use Rattle.st_step.specs.Runs.{Situation}
 use Rattle.st_step.specs.declared.state.State.{State as MachineState}
 use Rattle.st_plain.specs.declared.run.PlainRun.{PlainRun}
 use Rattle.st_plain.specs.Answer.{IsPlainImage}
-use Rattle.st_plain.specs.Code.{HasItem, item_address, word_index}
-use Rattle.st_plain.specs.Running.{IsAmid, IsBehind, IsDefinedFrom, IsInside, IsReady, IsUnderWay, OnWay}
-use Rattle.st_plain.specs.Standing.{AtCall, AtEnd, EndsAt, Enters, Stands, situation}
-use Rattle.st_plain.proofs.Jumps.{entry_small}
-use Rattle.st_plain.proofs.Tables.{begins_at}
+use Rattle.st_items.specs.Code.{HasItem, word_index}
+use Rattle.st_step.specs.Frames.{address_in}
+use Rattle.st_items.specs.Ways.{IsBehind, IsInside, OnWay}
+use Rattle.st_plain.specs.Running.{IsAmid, IsDefinedFrom, IsReady, IsUnderWay}
+use Rattle.st_items.specs.Called.{Enters}
+use Rattle.st_plain.specs.Standing.{AtCall, AtEnd, EndsAt, Stands, situation, on_stack}
+use Rattle.st_items.proofs.Jumps.{entry_small}
+use Rattle.st_items.proofs.Tables.{begins_at}
 
 -- ---- an item is there
 
@@ -58,23 +61,23 @@ either_some true xs ys h k = h
 either_some false xs ys h k = k
 
 -- an item has a word
-some_words : (function : ProgramFunction) (kind : ItemKind) → 0 < item_size Unchanged function kind
-some_words function items.Prologue = omega arith
-some_words function items.Epilogue = omega arith
-some_words function (items.Plain i) = omega arith
-some_words function (items.Li rd value) = either_some (is_short value) (addi rd registers.Zero value ∷ []) (posted.Plain (upper_ins ops.Lui rd (pos (high_part value))) ∷ with_low_part rd (low_part value)) (omega arith) (omega arith)
-some_words function (items.Branch op rs1 rs2 to) = omega arith
-some_words function (items.Jump to) = omega arith
-some_words function (items.Call f) = omega arith
-some_words function (items.Entry at) = omega arith
-some_words function (items.Fork f handle) = omega arith
+pub has_word : (function : ProgramFunction) (kind : ItemKind) → 0 < item_size Unchanged function kind
+has_word function items.Prologue = omega arith
+has_word function items.Epilogue = omega arith
+has_word function (items.Plain i) = omega arith
+has_word function (items.Li rd value) = either_some (is_short value) (addi rd registers.Zero value ∷ []) (posted.Plain (upper_ins ops.Lui rd (pos (high_part value))) ∷ with_low_part rd (low_part value)) (omega arith) (omega arith)
+has_word function (items.Branch op rs1 rs2 to) = omega arith
+has_word function (items.Jump to) = omega arith
+has_word function (items.Call f) = omega arith
+has_word function (items.Entry at) = omega arith
+has_word function (items.Fork f handle) = omega arith
 
 pub begins_standing : (p : Program) (image : Image) (d : Data) (stack : ℕ) (names : List Held) (t : Situation) (s : State) → IsPlainImage p image → Stands p stack names t s → IsDefinedFrom p d s → slice_get image.begins (word_index t.state.pc) ≡ Some true
 begins_standing p image d stack names t s pi stands defined =
     let function = stands.stands.function in
     let found = item_defined p d s function stands.stands.here defined in
-    let first = begins_at p image s.top.function function s.top.next found.0 0 pi found.1 (some_words function found.0.kind) in
-    let same : item_address p s.top.function function s.top.next + 4 * 0 ≡ t.state.pc = omega (arith, stands.at) in
+    let first = begins_at Unchanged p image s.top.function function s.top.next found.0 0 pi found.1 (has_word function found.0.kind) in
+    let same : address_in Unchanged p s.top.function function s.top.next + 4 * 0 ≡ t.state.pc = omega (arith, stands.at) in
     subst (λ a. slice_get image.begins (word_index a) ≡ Some true) same first
 
 pub begins_ready : (p : Program) (image : Image) (d : Data) (limits : Limits) (r : PlainRun) (s : State) → IsReady p image d limits r s → slice_get image.begins (word_index r.machine.pc) ≡ Some true
@@ -83,14 +86,14 @@ begins_ready p image d limits r s ready =
 
 -- ---- amid an item
 
-no_beginning : (p : Program) (image : Image) (pc : ℕ) → IsPlainImage p image → IsBehind p pc → slice_get image.begins (word_index pc) ≡ Some false
+no_beginning : (p : Program) (image : Image) (pc : ℕ) → IsPlainImage p image → IsBehind Unchanged p pc → slice_get image.begins (word_index pc) ≡ Some false
 no_beginning p image pc pi behind =
-    let found = begins_at p image behind.f behind.function behind.i behind.item behind.k pi behind.has behind.few in
+    let found = begins_at Unchanged p image behind.f behind.function behind.i behind.item behind.k pi behind.has behind.few in
     let later : (behind.k == 0) ≡ false = ne_eqb behind.k 0 (λ e. omega (arith, e, behind.some)) in
     subst (λ a. slice_get image.begins (word_index a) ≡ Some false) (sym behind.at) (found ∙ ap (λ b. Some b) later)
 
 pub entered_low : (p : Program) (f : ℕ) (function : ProgramFunction) (i : ℕ) (item : Item) (kind : ItemKind) (entry : ℕ) → IsAccepted p → HasItem p f function i item → item.kind ≡ kind → Enters kind entry → entry < 0x10000
-entered_low p f function i item (items.Entry at) entry accepted has is enters = omega (arith, enters, entry_small p f function i item at accepted has is)
+entered_low p f function i item (items.Entry at) entry accepted has is enters = omega (arith, enters, entry_small Unchanged p f function i item at accepted has is)
 entered_low p f function i item (items.Fork g handle) entry accepted has is enters = omega (arith, enters)
 entered_low p f function i item items.Prologue entry accepted has is enters = absurd enters
 entered_low p f function i item items.Epilogue entry accepted has is enters = absurd enters
@@ -114,11 +117,11 @@ entry_low p stack names t s accepted (inl at) = call_low p stack names t s accep
 entry_low p stack names t s accepted (inr at) = ending_low s.top.kind at.ret t.state.pc _ at.ends
 
 -- the machine is whole: so a word behind an item's first
-whole_inside : (p : Program) (m : MachineState) → IsInside p m → m.half ≡ None → IsBehind p m.pc
+whole_inside : (p : Program) (m : MachineState) → IsInside Unchanged p m → m.half ≡ None → IsBehind Unchanged p m.pc
 whole_inside p m (inl half) whole = absurd (half whole)
 whole_inside p m (inr behind) whole = behind
 
-calls_behind : (p : Program) (d : Data) (stack n : ℕ) (names : List Held) (u t : Situation) (s : State) → IsAccepted p → OnWay p d stack n u t → AtCall p stack names t s ⊎ AtEnd p stack names t s → 0x10000 ≤ u.state.pc → u.state.half ≡ None → IsBehind p u.state.pc
+calls_behind : (p : Program) (d : Data) (stack n : ℕ) (names : List Held) (u t : Situation) (s : State) → IsAccepted p → OnWay Unchanged p d (on_stack stack) n u t → AtCall p stack names t s ⊎ AtEnd p stack names t s → 0x10000 ≤ u.state.pc → u.state.half ≡ None → IsBehind Unchanged p u.state.pc
 calls_behind p d stack zero names u t s accepted way at code whole =
     let low = entry_low p stack names t s accepted at in
     let same = ap (λ (v : Situation). v.state.pc) way in
@@ -126,11 +129,11 @@ calls_behind p d stack zero names u t s accepted way at code whole =
     absurd never
 calls_behind p d stack (suc n) names u t s accepted way at code whole = whole_inside p u.state way.0 whole
 
-passes_behind : (p : Program) (d : Data) (stack n : ℕ) (u t : Situation) → 1 ≤ n → OnWay p d stack n u t → u.state.half ≡ None → IsBehind p u.state.pc
+passes_behind : (p : Program) (d : Data) (stack n : ℕ) (u t : Situation) → 1 ≤ n → OnWay Unchanged p d (on_stack stack) n u t → u.state.half ≡ None → IsBehind Unchanged p u.state.pc
 passes_behind p d stack zero u t some way whole = let never : ⊥ = omega (arith, some) in absurd never
 passes_behind p d stack (suc n) u t some way whole = whole_inside p u.state way.0 whole
 
-amid_behind : (p : Program) (d : Data) (limits : Limits) (drawn : ℕ) (r : PlainRun) (s : State) (left : ℕ) → IsAccepted p → IsAmid p d limits drawn r s left → left < 42 → 0x10000 ≤ r.machine.pc → r.machine.half ≡ None → IsBehind p r.machine.pc
+amid_behind : (p : Program) (d : Data) (limits : Limits) (drawn : ℕ) (r : PlainRun) (s : State) (left : ℕ) → IsAccepted p → IsAmid p d limits drawn r s left → left < 42 → 0x10000 ≤ r.machine.pc → r.machine.half ≡ None → IsBehind Unchanged p r.machine.pc
 amid_behind p d limits drawn r s left accepted (inl starts) few code whole = let never : ⊥ = omega (arith, starts.0, few) in absurd never
 amid_behind p d limits drawn r s left accepted (inr (inl calls)) few code whole =
     calls_behind p d limits.stack calls.n calls.names (situation r.machine r.board.words.stack) calls.t s accepted calls.way calls.at code whole

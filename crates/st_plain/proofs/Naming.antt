@@ -15,7 +15,6 @@ use Rattle.st_model.specs.Ordinary.{value_of, counted, count_of}
 use Rattle.st_plain.specs.declared.cells.Cell.{Cell}
 use Rattle.st_plain.specs.declared.cells.Cell.TheVariants.{Future as FutureCell, Counter as CounterCell}
 use Rattle.st_plain.specs.Threads.{CounterCame, NameCame, AreLastForks, NamesStand}
-pub use Rattle.st_plain.proofs.Growing.{held_grows, files_grow, slots_grow, below_grows, stands_in_grows}
 pub use Rattle.st_plain.proofs.Rests.{forked_rest, ended_rest, counter_rest, added_rest, first_rest, forked_gives, ended_gives, counter_gives, added_gives, started_gives}
 use Rattle.st_plain.proofs.Fitting.{fit_there, future_fits, counter_fits, all_long, Onward, all_onward, counted_onward, names_drawn, cell_changed, fits_same, onward_same, onward_fork, onward_end, fits_end, onward_counter, fits_counter, made_above, not_made, counted_more, onward_add, fits_add, counted_up_onward}
 pub use Rattle.st_plain.proofs.Notes.{first_notes, notes_after_fork, notes_after_end, notes_after_counter, notes_same, path_of_notes}

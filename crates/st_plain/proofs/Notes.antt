@@ -12,7 +12,8 @@ use Rattle.st_plain.specs.declared.cells.Cell.{Cell}
 use Rattle.st_plain.specs.declared.cells.Note.{Note}
 use Rattle.st_plain.specs.Threads.{AreLastForks, NamesStand, NoteStands, NotesStand, path_above, path_by}
 use Rattle.st_plain.proofs.Rests.{forked_rest, ended_rest, counter_rest, first_rest}
-use Rattle.st_plain.proofs.Growing.{get_front, get_new}
+use Rattle.st_items.proofs.Words.{get_front}
+use Rattle.st_plain.proofs.Growing.{get_new}
 
 pub notes_grow : (names more : List Held) (notes : List Note) (tallies : List Tally) → NotesStand names notes tallies → NotesStand (names ++ more) notes tallies
 notes_grow names more [] [] h = tt

@@ -1,20 +1,13 @@
 -- One instruction of a run that is under way with an item: it goes on with the item, comes to the next one, or ends the run (instruction_turns).
 -- At an entry the run is at the end of what the item calls (is_served_there).
-use Rattle.std.proofs.Common.{◌≡◌, ◌≢◌, ◌⊎◌, inl, inr, ℕ, zero, suc, ◌+◌, ◌/◌, ◌<◌, ◌≤◌, Bool, true, false, if◌then◌else◌, List, [], ◌∷◌, length, reverse, nat_lt, ◌*◌, Some, None, slice_get, refl, ap, ◌∙◌, sym, subst, arith}
+use Rattle.std.proofs.Common.{◌≡◌, ◌≢◌, ◌⊎◌, inl, inr, ℕ, zero, suc, ◌+◌, ◌/◌, ◌<◌, ◌≤◌, Bool, true, false, if◌then◌else◌, List, length, reverse, nat_lt, ◌*◌, Some, None, slice_get, refl, ap, ◌∙◌, sym, subst, arith}
 use Rattle.st_base.specs.declared.image.Image.{Image}
 use Rattle.st_base.specs.declared.line.Line.{Line}
 use Rattle.st_base.specs.declared.limits.Limits.{Limits}
 use Rattle.st_base.specs.declared.limits.LimitKind.TheVariants.{Stack}
 use Rattle.st_base.specs.declared.thread.Held.{Held}
 use Rattle.st_rv.specs.declared.ins.Ins.{Ins}
-use Rattle.st_base.specs.declared.reg.Reg.TheVariants as registers
-use Rattle.st_base.specs.declared.thread.ActivationKind.{ActivationKind}
-use Rattle.st_base.specs.declared.thread.ActivationKind.TheVariants.{Called, Forked, Root}
-use Rattle.st_model.specs.declared.program.Item.{Item}
-use Rattle.st_model.specs.declared.program.ItemKind.{ItemKind}
-use Rattle.st_model.specs.declared.program.ItemKind.TheVariants as items
 use Rattle.st_model.specs.declared.program.Program.{Program}
-use Rattle.st_model.specs.declared.program.ProgramFunction.{ProgramFunction}
 use Rattle.st_model.specs.Accepted.{IsAccepted}
 use Rattle.st_model.specs.declared.ordinary.OrdEnd.TheVariants as ends
 use Rattle.st_model.specs.declared.ordinary.State.{State}
@@ -27,28 +20,30 @@ use Rattle.st_words.specs.declared.plain.PlainBoard.{PlainBoard}
 use Rattle.st_step.specs.declared.machine.Machine.{Machine}
 use Rattle.st_step.specs.declared.machine.StepEnd.{StepEnd}
 use Rattle.st_step.specs.declared.machine.StepEnd.TheVariants as stepped
-use Rattle.st_step.specs.Moves.{Stops, move_of, register}
+use Rattle.st_step.specs.Moves.{Stops, move_of}
 use Rattle.st_step.specs.Runs.{Situation, moved}
 use Rattle.st_plain.specs.declared.run.PlainRun.{PlainRun}
 use Rattle.st_plain.specs.declared.stop.Ending.TheVariants as endings
-use Rattle.st_plain.specs.Code.{begins_of, code_at, word_index, HasItem, instructions_of}
+use Rattle.st_items.specs.Code.{code_at, word_index, IsSized}
+use Rattle.st_items.specs.Tables.{begins_of, instructions_of}
 use Rattle.std.proofs.lemmas.Bool.{le-ltb, lt-ltb}
 use Rattle.st_model.specs.declared.code.Layout.TheVariants.{Unchanged}
-use Rattle.st_model.specs.Layout.{code_of, code_start, function_words, functions_size, program_words, words_of_all, HasSize}
-use Rattle.st_plain.specs.Running.{EndsBy, GoesOn, HasTables, IsAmid, IsAtEntry, IsDefinedFrom, IsKept, IsPast, IsUnderWay, Makes, OnWay, Starts, Calls, Passes, limit_met}
-use Rattle.st_plain.specs.Standing.{on_stack, situation, Stands, AtCall, AtEnd, Enters, EndsAt}
+use Rattle.st_model.specs.Layout.{code_of, code_start, program_words}
+use Rattle.st_items.specs.Ways.{Makes, OnWay}
+use Rattle.st_plain.specs.Running.{EndsBy, GoesOn, HasTables, IsAmid, IsAtEntry, IsDefinedFrom, IsKept, IsPast, IsUnderWay, Starts, Calls, Passes, limit_met}
+use Rattle.st_plain.specs.Standing.{on_stack, situation, Stands, AtCall, AtEnd}
 use Rattle.std.proofs.Math.Logic.{∥∥₁_elim}
 use Rattle.std.proofs.Math.Bridge.{le_prop}
 use Rattle.std.proofs.Math.Dec.{T}
 use Rattle.std.proofs.lemmas.Option.{slice_get_within}
 use Rattle.st_step.specs.Acts.{IsBounded}
 use Rattle.st_step.proofs.Fetching.{bounded_some}
-use Rattle.st_plain.proofs.Tables.{fetched_at}
-use Rattle.st_plain.proofs.Words.{function-length, code-length}
-use Rattle.std.proofs.lemmas.List.{length-append, length-map}
+use Rattle.st_items.proofs.Tables.{fetched_at, begins_length}
+use Rattle.st_items.proofs.Words.{program-length, code-length}
+use Rattle.std.proofs.lemmas.List.{length-map}
 use Rattle.st_plain.specs.Answer.{IsPlainImage}
-use Rattle.st_plain.proofs.Jumps.{entry_small}
-use Rattle.st_plain.proofs.Addresses.{place_bounds}
+use Rattle.st_plain.proofs.ItemBegins.{entry_low}
+use Rattle.st_items.proofs.Addresses.{place_bounds, sized}
 use Rattle.st_plain.proofs.Beginning.{Begins, GoesAlone, StopsAs, item_begins}
 use Rattle.st_plain.proofs.Executing.{MovesOf, SpeaksWithin, speaks_prop, speaks_within, executes, keeps_long, stops}
 use Rattle.st_plain.proofs.ForkHandles.{step_handles}
@@ -88,38 +83,17 @@ kept_alone p d limits r names v drawn s kept goes = record {
 
 -- ---- the instruction at the pc
 
-code_there : (p : Program) (pc : ℕ) (ins : Ins) (instructions : List Ins) → instructions ≡ code_of Unchanged p → 0x10000 ≤ pc → slice_get instructions (word_index pc) ≡ Some ins → code_at p pc ≡ Some ins
+code_there : (p : Program) (pc : ℕ) (ins : Ins) (instructions : List Ins) → instructions ≡ code_of Unchanged p → 0x10000 ≤ pc → slice_get instructions (word_index pc) ≡ Some ins → code_at Unchanged p pc ≡ Some ins
 code_there p pc ins instructions are high there =
     ap (λ (b : Bool). if b then None else slice_get (code_of Unchanged p) (word_index pc)) (le-ltb pc code_start high)
     ∙ ap (λ (xs : List Ins). slice_get xs (word_index pc)) (sym are)
     ∙ there
 
 -- it is the one that leads on
-made_by : (p : Program) (d : Data) (stack : ℕ) (t u : Situation) (ins : Ins) → Makes p d stack t u → code_at p t.state.pc ≡ Some ins → moved (on_stack stack) t (move_of d t.state ins) ≡ Some u
+made_by : (p : Program) (d : Data) (stack : ℕ) (t u : Situation) (ins : Ins) → Makes Unchanged p d (on_stack stack) t u → code_at Unchanged p t.state.pc ≡ Some ins → moved (on_stack stack) t (move_of d t.state ins) ≡ Some u
 made_by p d stack t u ins makes there =
     let same : makes.ins ≡ ins = (let e = makes.there in cc) in
     subst (λ (i : Ins). moved (on_stack stack) t (move_of d t.state i) ≡ Some u) same makes.goes
-
--- an entry stands below the code
-entering_low : (p : Program) (f : ℕ) (function : ProgramFunction) (i : ℕ) (item : Item) (kind : ItemKind) (entry : ℕ) → IsAccepted p → HasItem p f function i item → item.kind ≡ kind → Enters kind entry → entry < 0x10000
-entering_low p f function i item (items.Entry at) entry accepted has kind is = let small = entry_small p f function i item at accepted has kind in omega (arith, small, is)
-entering_low p f function i item (items.Fork g handle) entry accepted has kind is = omega (arith, is)
-entering_low p f function i item items.Prologue entry accepted has kind is = absurd is
-entering_low p f function i item items.Epilogue entry accepted has kind is = absurd is
-entering_low p f function i item (items.Plain x) entry accepted has kind is = absurd is
-entering_low p f function i item (items.Li rd value) entry accepted has kind is = absurd is
-entering_low p f function i item (items.Branch op rs1 rs2 to) entry accepted has kind is = absurd is
-entering_low p f function i item (items.Jump to) entry accepted has kind is = absurd is
-entering_low p f function i item (items.Call g) entry accepted has kind is = absurd is
-
-ending_low : (kind : ActivationKind) (ret entry ra : ℕ) → EndsAt kind ret entry ra → entry < 0x10000
-ending_low Called ret entry ra is = absurd is
-ending_low Forked ret entry ra is = let e = is.0 in omega (arith, e)
-ending_low Root ret entry ra is = omega (arith, is)
-
-pub entry_low : (p : Program) (stack : ℕ) (names : List Held) (t : Situation) (s : State) → IsAccepted p → AtCall p stack names t s ⊎ AtEnd p stack names t s → t.state.pc < 0x10000
-entry_low p stack names t s accepted (inl at) = entering_low p s.top.function at.stands.function s.top.next at.item at.item.kind t.state.pc accepted (record { named = at.stands.here; placed = at.placed }) refl at.enters
-entry_low p stack names t s accepted (inr at) = ending_low s.top.kind at.ret t.state.pc (register t.state registers.Ra) at.ends
 
 -- what it comes to
 abbrev pub TurnsAs : Program → Image → Data → Limits → ℕ → PlainRun → Machine → PlainBoard → State → ℕ → StepEnd → Type 0
@@ -130,19 +104,19 @@ TurnsAs p image d limits drawn r machine board s left (stepped.Trap kind) =
 TurnsAs p image d limits drawn r machine board s left (stepped.StackFull frame) = EndsBy p d limits drawn r.threads.notes.items.items r.threads.out.items.items s (endings.Limit (Stack 0 frame))
 TurnsAs p image d limits drawn r machine board s left (stepped.Entry entry) = ⊥
 
-module _ (p : Program) (image : Image) (d : Data) (limits : Limits) (drawn : ℕ) (r : PlainRun) (machine : Machine) (board : PlainBoard) (s : State) (left : ℕ) (ins : Ins) (end : StepEnd) (tables : HasTables p image limits r) (defined : IsDefinedFrom p d s) (there : code_at p r.machine.pc ≡ Some ins) (moves : MovesOf r.board r.machine (move_of d r.machine ins) end machine board) where
+module _ (p : Program) (image : Image) (d : Data) (limits : Limits) (drawn : ℕ) (r : PlainRun) (machine : Machine) (board : PlainBoard) (s : State) (left : ℕ) (ins : Ins) (end : StepEnd) (tables : HasTables p image limits r) (defined : IsDefinedFrom p d s) (there : code_at Unchanged p r.machine.pc ≡ Some ins) (moves : MovesOf r.board r.machine (move_of d r.machine ins) end machine board) where
   still : HasTables p image limits (moved_run r machine board)
   still = tables_stay p image limits r machine board tables (keeps_long r.board board r.machine machine (move_of d r.machine ins) end moves)
 
   -- where it leads on
-  led : (u : Situation) → Makes p d limits.stack (situation r.machine r.board.words.stack) u → (end ≡ stepped.Ran) × (situation machine board.words.stack ≡ u)
+  led : (u : Situation) → Makes Unchanged p d (on_stack limits.stack) (situation r.machine r.board.words.stack) u → (end ≡ stepped.Ran) × (situation machine board.words.stack ≡ u)
   led u makes = executes r.board board r.machine machine (move_of d r.machine ins) end u limits.stack tables.long (made_by p d limits.stack (situation r.machine r.board.words.stack) u ins makes there) moves
 
   ran : TurnsAs p image d limits drawn r machine board s left stepped.Ran → end ≡ stepped.Ran → TurnsAs p image d limits drawn r machine board s left end
   ran turns is = subst (TurnsAs p image d limits drawn r machine board s left) (sym is) turns
 
   -- on the way to an entry
-  calls_on : (names : List Held) (m : ℕ) (u t : Situation) → m ≤ 20 → m + 21 < left → Makes p d limits.stack (situation r.machine r.board.words.stack) u → OnWay p d limits.stack m u t → AtCall p limits.stack names t s ⊎ AtEnd p limits.stack names t s
+  calls_on : (names : List Held) (m : ℕ) (u t : Situation) → m ≤ 20 → m + 21 < left → Makes Unchanged p d (on_stack limits.stack) (situation r.machine r.board.words.stack) u → OnWay Unchanged p d (on_stack limits.stack) m u t → AtCall p limits.stack names t s ⊎ AtEnd p limits.stack names t s
       → IsKept p limits names r.threads.cells.items.items r.threads.notes.items.items r.threads.out.items.items s → length r.threads.cells.items.items ≡ drawn → TurnsAs p image d limits drawn r machine board s left end
   calls_on names m u t small few makes way at kept drawn_yet =
       let on = led u makes in
@@ -153,12 +127,12 @@ module _ (p : Program) (image : Image) (d : Data) (limits : Limits) (drawn : ℕ
         record {
           tables = still;
           defined = defined;
-          amid = inr (inl (record { names = names; n = m; small = small; few = omega arith; t = t; way = subst (λ (x : Situation). OnWay p d limits.stack m x t) (sym on.1) way; at = at; kept = kept; drawn_yet = drawn_yet }));
+          amid = inr (inl (record { names = names; n = m; small = small; few = omega arith; t = t; way = subst (λ (x : Situation). OnWay Unchanged p d (on_stack limits.stack) m x t) (sym on.1) way; at = at; kept = kept; drawn_yet = drawn_yet }));
         },
       )) on.0
 
   -- on the way to the next item, of which so many instructions are left
-  passes_on : (names : List Held) (m : ℕ) (u t : Situation) (s' : State) → m ≤ 20 → m < left → limit_met p limits drawn s ≡ None → step p d s ≡ Goes s' → Makes p d limits.stack (situation r.machine r.board.words.stack) u → OnWay p d limits.stack m u t → Stands p limits.stack names t s'
+  passes_on : (names : List Held) (m : ℕ) (u t : Situation) (s' : State) → m ≤ 20 → m < left → limit_met p limits drawn s ≡ None → step p d s ≡ Goes s' → Makes Unchanged p d (on_stack limits.stack) (situation r.machine r.board.words.stack) u → OnWay Unchanged p d (on_stack limits.stack) m u t → Stands p limits.stack names t s'
       → IsKept p limits names r.threads.cells.items.items r.threads.notes.items.items r.threads.out.items.items s' → length r.threads.cells.items.items ≡ drawn + drawn_by (item_at p s.top) → TurnsAs p image d limits drawn r machine board s left end
   passes_on names zero u t s' small few passes steps makes way stands kept drew =
       let on = led u makes in
@@ -175,7 +149,7 @@ module _ (p : Program) (image : Image) (d : Data) (limits : Limits) (drawn : ℕ
         passes = passes;
         s' = s';
         steps = steps;
-        comes = record { names = names; n = suc m; few = small; t = t; way = subst (λ (x : Situation). OnWay p d limits.stack (suc m) x t) (sym on.1) way; stands = stands; kept = kept };
+        comes = record { names = names; n = suc m; few = small; t = t; way = subst (λ (x : Situation). OnWay Unchanged p d (on_stack limits.stack) (suc m) x t) (sym on.1) way; stands = stands; kept = kept };
         drew = drew;
       } in
       ran (inl (suc m, few, omega arith, record { tables = still; defined = defined; amid = inr (inr (record { goes = goes; some = omega arith; few = omega arith })) })) on.0
@@ -217,7 +191,7 @@ module _ (p : Program) (image : Image) (d : Data) (limits : Limits) (drawn : ℕ
           let ended = stops r.board board r.machine machine (move_of d r.machine ins) end stopping.end halts moves in
           subst (TurnsAs p image d limits drawn r machine board s left) (sym ended.0) (stopped_by stopping.end stopping.alike names kept)
 
-  calls_further : 0x10000 ≤ r.machine.pc → (calls : Calls p d limits drawn r s left) → (n : ℕ) → calls.n ≡ n → OnWay p d limits.stack n (situation r.machine r.board.words.stack) calls.t → TurnsAs p image d limits drawn r machine board s left end
+  calls_further : 0x10000 ≤ r.machine.pc → (calls : Calls p d limits drawn r s left) → (n : ℕ) → calls.n ≡ n → OnWay Unchanged p d (on_stack limits.stack) n (situation r.machine r.board.words.stack) calls.t → TurnsAs p image d limits drawn r machine board s left end
   calls_further high calls zero is way =
       absurd (let low = entry_low p limits.stack calls.names (situation r.machine r.board.words.stack) s tables.is_plain.accepted (subst (λ (x : Situation). AtCall p limits.stack calls.names x s ⊎ AtEnd p limits.stack calls.names x s) (sym way) calls.at) in omega (arith, low, high))
   calls_further high calls (suc m) is way =
@@ -225,7 +199,7 @@ module _ (p : Program) (image : Image) (d : Data) (limits : Limits) (drawn : ℕ
       let few = calls.few in
       calls_on calls.names m way.1.0 calls.t (omega arith) (omega arith) way.1.1 way.1.2 calls.at calls.kept calls.drawn_yet
 
-  passes_further : (passing : Passes p d limits drawn r s left) → (n : ℕ) → passing.goes.comes.n ≡ n → OnWay p d limits.stack n (situation r.machine r.board.words.stack) passing.goes.comes.t → TurnsAs p image d limits drawn r machine board s left end
+  passes_further : (passing : Passes p d limits drawn r s left) → (n : ℕ) → passing.goes.comes.n ≡ n → OnWay Unchanged p d (on_stack limits.stack) n (situation r.machine r.board.words.stack) passing.goes.comes.t → TurnsAs p image d limits drawn r machine board s left end
   passes_further passing zero is way = absurd (let some = passing.some in omega (arith, some, is))
   passes_further passing (suc m) is way =
       let goes = passing.goes in
@@ -253,13 +227,13 @@ pub record IsServedThere (p : Program) (limits : Limits) (drawn : ℕ) (r : Plai
   pub drawn_yet : length r.threads.cells.items.items ≡ drawn
   pub many : 21 ≤ left
 
-no_code : (p : Program) (d : Data) (stack : ℕ) (t u : Situation) → t.state.pc < 0x10000 → Makes p d stack t u → ⊥
+no_code : (p : Program) (d : Data) (stack : ℕ) (t u : Situation) → t.state.pc < 0x10000 → Makes Unchanged p d (on_stack stack) t u → ⊥
 no_code p d stack t u low makes =
-    let none : code_at p t.state.pc ≡ None = ap (λ (b : Bool). if b then None else slice_get (code_of Unchanged p) (word_index t.state.pc)) (lt-ltb t.state.pc code_start low) in
+    let none : code_at Unchanged p t.state.pc ≡ None = ap (λ (b : Bool). if b then None else slice_get (code_of Unchanged p) (word_index t.state.pc)) (lt-ltb t.state.pc code_start low) in
     let e = makes.there in
     cc
 
-served_at : (p : Program) (d : Data) (limits : Limits) (drawn : ℕ) (r : PlainRun) (s : State) (left : ℕ) → r.machine.pc < 0x10000 → (calls : Calls p d limits drawn r s left) → (n : ℕ) → calls.n ≡ n → OnWay p d limits.stack n (situation r.machine r.board.words.stack) calls.t → IsServedThere p limits drawn r s left
+served_at : (p : Program) (d : Data) (limits : Limits) (drawn : ℕ) (r : PlainRun) (s : State) (left : ℕ) → r.machine.pc < 0x10000 → (calls : Calls p d limits drawn r s left) → (n : ℕ) → calls.n ≡ n → OnWay Unchanged p d (on_stack limits.stack) n (situation r.machine r.board.words.stack) calls.t → IsServedThere p limits drawn r s left
 served_at p d limits drawn r s left low calls zero is way = record {
   names = calls.names;
   entry = record { kept = calls.kept; at = subst (λ (x : Situation). AtCall p limits.stack calls.names x s ⊎ AtEnd p limits.stack calls.names x s) (sym way) calls.at };
@@ -268,24 +242,24 @@ served_at p d limits drawn r s left low calls zero is way = record {
 }
 served_at p d limits drawn r s left low calls (suc m) is way = absurd (no_code p d limits.stack (situation r.machine r.board.words.stack) way.1.0 low way.1.1)
 
-passing_no : (p : Program) (d : Data) (limits : Limits) (drawn : ℕ) (r : PlainRun) (s : State) (left : ℕ) → r.machine.pc < 0x10000 → (passing : Passes p d limits drawn r s left) → (n : ℕ) → passing.goes.comes.n ≡ n → OnWay p d limits.stack n (situation r.machine r.board.words.stack) passing.goes.comes.t → ⊥
+passing_no : (p : Program) (d : Data) (limits : Limits) (drawn : ℕ) (r : PlainRun) (s : State) (left : ℕ) → r.machine.pc < 0x10000 → (passing : Passes p d limits drawn r s left) → (n : ℕ) → passing.goes.comes.n ≡ n → OnWay Unchanged p d (on_stack limits.stack) n (situation r.machine r.board.words.stack) passing.goes.comes.t → ⊥
 passing_no p d limits drawn r s left low passing zero is way = let some = passing.some in omega (arith, some, is)
 passing_no p d limits drawn r s left low passing (suc m) is way = no_code p d limits.stack (situation r.machine r.board.words.stack) way.1.0 low way.1.1
 
-served_amid : (p : Program) (d : Data) (limits : Limits) (drawn : ℕ) (r : PlainRun) (s : State) (left : ℕ) → HasSize p → r.machine.pc < 0x10000 → IsAmid p d limits drawn r s left → IsServedThere p limits drawn r s left
+served_amid : (p : Program) (d : Data) (limits : Limits) (drawn : ℕ) (r : PlainRun) (s : State) (left : ℕ) → IsSized Unchanged p → r.machine.pc < 0x10000 → IsAmid p d limits drawn r s left → IsServedThere p limits drawn r s left
 served_amid p d limits drawn r s left size low (inl begins) =
     let stands = begins.2.stands in
-    let bound = (place_bounds p s.top.function stands.stands.function s.top.next size stands.stands.here).0 in
+    let bound = (place_bounds Unchanged p s.top.function stands.stands.function s.top.next size stands.stands.here).0 in
     let at = stands.at in
     absurd (omega (arith, low, bound, at))
 served_amid p d limits drawn r s left size low (inr (inl calls)) = served_at p d limits drawn r s left low calls calls.n refl calls.way
 served_amid p d limits drawn r s left size low (inr (inr passing)) = absurd (passing_no p d limits drawn r s left low passing passing.goes.comes.n refl passing.goes.comes.way)
 
 pub is_served_there : (p : Program) (image : Image) (d : Data) (limits : Limits) (drawn : ℕ) (r : PlainRun) (s : State) (left : ℕ) → r.machine.pc < 0x10000 → IsUnderWay p image d limits drawn r s left → IsServedThere p limits drawn r s left
-is_served_there p image d limits drawn r s left low under = served_amid p d limits drawn r s left under.tables.is_plain.size low under.amid
+is_served_there p image d limits drawn r s left low under = served_amid p d limits drawn r s left (sized Unchanged p under.tables.is_plain.accepted under.tables.is_plain.size) low under.amid
 
 -- what the entry came to
-served_on : (p : Program) (image : Image) (d : Data) (limits : Limits) (drawn : ℕ) (r : PlainRun) (s : State) (left : ℕ) → 21 ≤ left → HasTables p image limits r → IsDefinedFrom p d s → (goes : GoesOn p d limits drawn r s) → (n : ℕ) → goes.comes.n ≡ n → OnWay p d limits.stack n (situation r.machine r.board.words.stack) goes.comes.t
+served_on : (p : Program) (image : Image) (d : Data) (limits : Limits) (drawn : ℕ) (r : PlainRun) (s : State) (left : ℕ) → 21 ≤ left → HasTables p image limits r → IsDefinedFrom p d s → (goes : GoesOn p d limits drawn r s) → (n : ℕ) → goes.comes.n ≡ n → OnWay Unchanged p d (on_stack limits.stack) n (situation r.machine r.board.words.stack) goes.comes.t
     → ((less : ℕ) × (less < left) × (less < 42) × IsUnderWay p image d limits drawn r s less) ⊎ IsPast p image d limits drawn r s
 served_on p image d limits drawn r s left many tables defined goes zero is way = inr (record {
   passes = goes.passes;
@@ -313,27 +287,27 @@ entry_turns p image d limits drawn r new s left under many board code most goes 
 
 -- ---- the instruction is there
 
-coded_begin : (p : Program) (image : Image) (d : Data) (limits : Limits) (drawn : ℕ) (names : List Held) (t : Situation) (s : State) → Begins p image d limits drawn names t s → (ins : Ins) × (code_at p t.state.pc ≡ Some ins)
+coded_begin : (p : Program) (image : Image) (d : Data) (limits : Limits) (drawn : ℕ) (names : List Held) (t : Situation) (s : State) → Begins p image d limits drawn names t s → (ins : Ins) × (code_at Unchanged p t.state.pc ≡ Some ins)
 coded_begin p image d limits drawn names t s (inl led) = (led.1.1.ins, led.1.1.there)
 coded_begin p image d limits drawn names t s (inr stopping) = (stopping.ins, stopping.there)
 
-coded_way : (p : Program) (d : Data) (stack n : ℕ) (t u : Situation) → 1 ≤ n → OnWay p d stack n t u → (ins : Ins) × (code_at p t.state.pc ≡ Some ins)
+coded_way : (p : Program) (d : Data) (stack n : ℕ) (t u : Situation) → 1 ≤ n → OnWay Unchanged p d (on_stack stack) n t u → (ins : Ins) × (code_at Unchanged p t.state.pc ≡ Some ins)
 coded_way p d stack zero t u some way = absurd (omega (arith, some))
 coded_way p d stack (suc n) t u some way = (way.1.1.ins, way.1.1.there)
 
-coded_call : (p : Program) (image : Image) (d : Data) (limits : Limits) (drawn : ℕ) (r : PlainRun) (s : State) (left : ℕ) → IsAccepted p → 0x10000 ≤ r.machine.pc → (calls : Calls p d limits drawn r s left) → (n : ℕ) → calls.n ≡ n → OnWay p d limits.stack n (situation r.machine r.board.words.stack) calls.t → (ins : Ins) × (code_at p r.machine.pc ≡ Some ins)
+coded_call : (p : Program) (image : Image) (d : Data) (limits : Limits) (drawn : ℕ) (r : PlainRun) (s : State) (left : ℕ) → IsAccepted p → 0x10000 ≤ r.machine.pc → (calls : Calls p d limits drawn r s left) → (n : ℕ) → calls.n ≡ n → OnWay Unchanged p d (on_stack limits.stack) n (situation r.machine r.board.words.stack) calls.t → (ins : Ins) × (code_at Unchanged p r.machine.pc ≡ Some ins)
 coded_call p image d limits drawn r s left accepted high calls zero is way =
     absurd (let low = entry_low p limits.stack calls.names (situation r.machine r.board.words.stack) s accepted (subst (λ (x : Situation). AtCall p limits.stack calls.names x s ⊎ AtEnd p limits.stack calls.names x s) (sym way) calls.at) in omega (arith, low, high))
 coded_call p image d limits drawn r s left accepted high calls (suc m) is way = coded_way p d limits.stack (suc m) (situation r.machine r.board.words.stack) calls.t (omega arith) way
 
-coded_amid : (p : Program) (image : Image) (d : Data) (limits : Limits) (drawn : ℕ) (r : PlainRun) (s : State) (left : ℕ) → HasTables p image limits r → IsDefinedFrom p d s → 0x10000 ≤ r.machine.pc → IsAmid p d limits drawn r s left → (ins : Ins) × (code_at p r.machine.pc ≡ Some ins)
+coded_amid : (p : Program) (image : Image) (d : Data) (limits : Limits) (drawn : ℕ) (r : PlainRun) (s : State) (left : ℕ) → HasTables p image limits r → IsDefinedFrom p d s → 0x10000 ≤ r.machine.pc → IsAmid p d limits drawn r s left → (ins : Ins) × (code_at Unchanged p r.machine.pc ≡ Some ins)
 coded_amid p image d limits drawn r s left tables defined high (inl begins) =
     coded_begin p image d limits drawn begins.2.names (situation r.machine r.board.words.stack) s
     (item_begins p image d limits drawn begins.2.names (situation r.machine r.board.words.stack) s tables.is_plain limits.stack_most limits.stack_multiple begins.2.stands (first_defined p d s defined))
 coded_amid p image d limits drawn r s left tables defined high (inr (inl calls)) = coded_call p image d limits drawn r s left tables.is_plain.accepted high calls calls.n refl calls.way
 coded_amid p image d limits drawn r s left tables defined high (inr (inr passing)) = coded_way p d limits.stack passing.goes.comes.n (situation r.machine r.board.words.stack) passing.goes.comes.t passing.some passing.goes.comes.way
 
-read_code : (p : Program) (pc : ℕ) (ins : Ins) → 0x10000 ≤ pc → code_at p pc ≡ Some ins → slice_get (code_of Unchanged p) (word_index pc) ≡ Some ins
+read_code : (p : Program) (pc : ℕ) (ins : Ins) → 0x10000 ≤ pc → code_at Unchanged p pc ≡ Some ins → slice_get (code_of Unchanged p) (word_index pc) ≡ Some ins
 read_code p pc ins high there = ap (λ (b : Bool). if b then None else slice_get (code_of Unchanged p) (word_index pc)) (sym (le-ltb pc code_start high)) ∙ there
 
 -- an instruction stands at the pc
@@ -346,16 +320,8 @@ pub code_inside : (image : Image) (d : Data) (r : PlainRun) → 0x10000 ≤ r.ma
 code_inside image d r high amid = ∥∥₁_elim amid le_prop (λ x. let there = is_coded x.0 image d x.1 x.2 r x.3 x.4 high x.5 in slice_get_within (instructions_of r.code.instructions.items) (word_index r.machine.pc) there.0 there.1)
 
 -- there are as many lines
-all-length : (fs : List ProgramFunction) → length (words_of_all Unchanged fs) ≡ functions_size Unchanged fs
-all-length [] = refl
-all-length (f ∷ fs) =
-    let more = all-length fs in
-    let first = function-length f in
-    length-append (function_words Unchanged f) (words_of_all Unchanged fs) ∙ (omega (arith, more, first))
-
 lines-length : (p : Program) (image : Image) → IsPlainImage p image → length image.lines ≡ length (code_of Unchanged p)
-unfolding program_words
-lines-length p image pi = ap length pi.is_image.lines ∙ length-map (program_words Unchanged p) (λ w. w.line) ∙ all-length p.functions ∙ sym (code-length p)
+lines-length p image pi = ap length pi.is_image.lines ∙ length-map (program_words Unchanged p) (λ w. w.line) ∙ program-length Unchanged p ∙ sym (code-length Unchanged p)
 
 pub line_inside : (image : Image) (d : Data) (r : PlainRun) → 0x10000 ≤ r.machine.pc → ∥ ((p : Program) × (limits : Limits) × (drawn : ℕ) × (s : State) × (left : ℕ) × IsUnderWay p image d limits drawn r s left) ∥₁ → word_index r.machine.pc < length image.lines
 line_inside image d r high amid =
@@ -366,15 +332,11 @@ line_inside image d r high amid =
     let codes = ap length tables.instructions in
     omega (arith, inside, lines, codes))
 
-pub begins_length : (p : Program) (image : Image) → IsPlainImage p image → length image.begins ≡ length (code_of Unchanged p)
-unfolding program_words
-begins_length p image pi = ap length pi.is_image.begins ∙ length-map (program_words Unchanged p) (λ w. w.begins) ∙ all-length p.functions ∙ sym (code-length p)
-
 pub beginning_inside : (p : Program) (image : Image) (d : Data) (limits : Limits) (drawn : ℕ) (r : PlainRun) (s : State) (left : ℕ) → 0x10000 ≤ r.machine.pc → IsUnderWay p image d limits drawn r s left → word_index r.machine.pc < length image.begins
 beginning_inside p image d limits drawn r s left high under =
     let there = is_coded p image d limits drawn r s left high under in
     let inside = slice_get_within (instructions_of r.code.instructions.items) (word_index r.machine.pc) there.0 there.1 in
-    let begins = begins_length p image under.tables.is_plain in
+    let begins = begins_length Unchanged p image under.tables.is_plain in
     let codes = ap length under.tables.instructions in
     omega (arith, inside, begins, codes)
 
@@ -387,11 +349,11 @@ t_prop false = λ x y. absurd x
 bounded_prop : (i : Ins) → IsProp (IsBounded i)
 bounded_prop i = λ x y. λ k. record { le = t_prop _ x.le y.le k }
 
-coded_bounded : (p : Program) (image : Image) (pc : ℕ) (ins : Ins) → IsPlainImage p image → 0x10000 ≤ pc → code_at p pc ≡ Some ins → IsBounded ins
+coded_bounded : (p : Program) (image : Image) (pc : ℕ) (ins : Ins) → IsPlainImage p image → 0x10000 ≤ pc → code_at Unchanged p pc ≡ Some ins → IsBounded ins
 coded_bounded p image pc ins pi high there =
     let same : word_index (0x10000 + 4 * word_index pc) ≡ word_index pc = omega arith in
     let again = ap (λ (k : ℕ). slice_get (code_of Unchanged p) k) same ∙ read_code p pc ins high there in
-    let fetched = fetched_at p image (0x10000 + 4 * word_index pc) (word_index pc) ins pi refl (code_there p (0x10000 + 4 * word_index pc) ins (code_of Unchanged p) refl (omega arith) again) in
+    let fetched = fetched_at Unchanged p image (0x10000 + 4 * word_index pc) (word_index pc) ins pi refl (code_there p (0x10000 + 4 * word_index pc) ins (code_of Unchanged p) refl (omega arith) again) in
     bounded_some fetched.word (Some ins) fetched.row
 
 -- the instruction at the pc
@@ -399,26 +361,26 @@ pub code_bounded : (image : Image) (d : Data) (r : PlainRun) (ins : Ins) → 0x1
 code_bounded image d r ins high amid there = ∥∥₁_elim amid (bounded_prop ins) (λ x. coded_bounded x.0 image r.machine.pc ins x.5.tables.is_plain high (code_there x.0 r.machine.pc ins (instructions_of r.code.instructions.items) x.5.tables.instructions high there))
 
 -- what it speaks of
-made_within : (p : Program) (d : Data) (stack n : ℕ) (t u : Situation) (ins : Ins) → n ≡ stack / 8 → Makes p d stack t u → code_at p t.state.pc ≡ Some ins → SpeaksWithin n (move_of d t.state ins)
+made_within : (p : Program) (d : Data) (stack n : ℕ) (t u : Situation) (ins : Ins) → n ≡ stack / 8 → Makes Unchanged p d (on_stack stack) t u → code_at Unchanged p t.state.pc ≡ Some ins → SpeaksWithin n (move_of d t.state ins)
 made_within p d stack n t u ins long makes there =
     speaks_within n t u (move_of d t.state ins) (subst (λ (k : ℕ). moved (λ q. nat_lt q k) t (move_of d t.state ins) ≡ Some u) (sym long) (made_by p d stack t u ins makes there))
 
-way_within : (p : Program) (d : Data) (stack count n : ℕ) (t u : Situation) (ins : Ins) → count ≡ stack / 8 → 1 ≤ n → OnWay p d stack n t u → code_at p t.state.pc ≡ Some ins → SpeaksWithin count (move_of d t.state ins)
+way_within : (p : Program) (d : Data) (stack count n : ℕ) (t u : Situation) (ins : Ins) → count ≡ stack / 8 → 1 ≤ n → OnWay Unchanged p d (on_stack stack) n t u → code_at Unchanged p t.state.pc ≡ Some ins → SpeaksWithin count (move_of d t.state ins)
 way_within p d stack count zero t u ins long some way there = absurd (omega (arith, some))
 way_within p d stack count (suc n) t u ins long some way there = made_within p d stack count t way.1.0 ins long way.1.1 there
 
-begin_within : (p : Program) (image : Image) (d : Data) (limits : Limits) (drawn : ℕ) (names : List Held) (t : Situation) (s : State) (count : ℕ) (ins : Ins) → count ≡ limits.stack / 8 → Begins p image d limits drawn names t s → code_at p t.state.pc ≡ Some ins → SpeaksWithin count (move_of d t.state ins)
+begin_within : (p : Program) (image : Image) (d : Data) (limits : Limits) (drawn : ℕ) (names : List Held) (t : Situation) (s : State) (count : ℕ) (ins : Ins) → count ≡ limits.stack / 8 → Begins p image d limits drawn names t s → code_at Unchanged p t.state.pc ≡ Some ins → SpeaksWithin count (move_of d t.state ins)
 begin_within p image d limits drawn names t s count ins long (inl led) there = made_within p d limits.stack count t led.1.0 ins long led.1.1 there
 begin_within p image d limits drawn names t s count ins long (inr stopping) there =
     let same : stopping.ins ≡ ins = (let e = stopping.there in cc) in
     subst (SpeaksWithin count) (sym (subst (λ (i : Ins). move_of d t.state i ≡ Stops stopping.end) same stopping.halts)) tt
 
-call_within : (p : Program) (d : Data) (limits : Limits) (drawn : ℕ) (r : PlainRun) (s : State) (left count : ℕ) (ins : Ins) → IsAccepted p → count ≡ limits.stack / 8 → 0x10000 ≤ r.machine.pc → (calls : Calls p d limits drawn r s left) → (n : ℕ) → calls.n ≡ n → OnWay p d limits.stack n (situation r.machine r.board.words.stack) calls.t → code_at p r.machine.pc ≡ Some ins → SpeaksWithin count (move_of d r.machine ins)
+call_within : (p : Program) (d : Data) (limits : Limits) (drawn : ℕ) (r : PlainRun) (s : State) (left count : ℕ) (ins : Ins) → IsAccepted p → count ≡ limits.stack / 8 → 0x10000 ≤ r.machine.pc → (calls : Calls p d limits drawn r s left) → (n : ℕ) → calls.n ≡ n → OnWay Unchanged p d (on_stack limits.stack) n (situation r.machine r.board.words.stack) calls.t → code_at Unchanged p r.machine.pc ≡ Some ins → SpeaksWithin count (move_of d r.machine ins)
 call_within p d limits drawn r s left count ins accepted long high calls zero is way there =
     absurd (let low = entry_low p limits.stack calls.names (situation r.machine r.board.words.stack) s accepted (subst (λ (x : Situation). AtCall p limits.stack calls.names x s ⊎ AtEnd p limits.stack calls.names x s) (sym way) calls.at) in omega (arith, low, high))
 call_within p d limits drawn r s left count ins accepted long high calls (suc m) is way there = way_within p d limits.stack count (suc m) (situation r.machine r.board.words.stack) calls.t ins long (omega arith) way there
 
-amid_within : (p : Program) (image : Image) (d : Data) (limits : Limits) (drawn : ℕ) (r : PlainRun) (s : State) (left : ℕ) (ins : Ins) → HasTables p image limits r → IsDefinedFrom p d s → 0x10000 ≤ r.machine.pc → IsAmid p d limits drawn r s left → code_at p r.machine.pc ≡ Some ins → SpeaksWithin (length r.board.words.stack) (move_of d r.machine ins)
+amid_within : (p : Program) (image : Image) (d : Data) (limits : Limits) (drawn : ℕ) (r : PlainRun) (s : State) (left : ℕ) (ins : Ins) → HasTables p image limits r → IsDefinedFrom p d s → 0x10000 ≤ r.machine.pc → IsAmid p d limits drawn r s left → code_at Unchanged p r.machine.pc ≡ Some ins → SpeaksWithin (length r.board.words.stack) (move_of d r.machine ins)
 amid_within p image d limits drawn r s left ins tables defined high (inl begins) there =
     begin_within p image d limits drawn begins.2.names (situation r.machine r.board.words.stack) s (length r.board.words.stack) ins tables.long
     (item_begins p image d limits drawn begins.2.names (situation r.machine r.board.words.stack) s tables.is_plain limits.stack_most limits.stack_multiple begins.2.stands (first_defined p d s defined))

@@ -36,14 +36,14 @@ use Rattle.st_plain.specs.declared.cells.Cell.TheVariants.{Future as FutureCell}
 use Rattle.st_plain.specs.declared.cells.Note.{Note}
 use Rattle.st_plain.specs.declared.run.PlainRun.{PlainRun}
 use Rattle.st_plain.specs.Answer.{IsPlainImage}
-use Rattle.st_plain.specs.Code.{begins_of, handles_of, instructions_of}
+use Rattle.st_items.specs.Tables.{begins_of, handles_of, instructions_of}
 use Rattle.st_step.specs.Frames.{value_in}
-use Rattle.st_plain.specs.Frames.{HasFile, IsHeldAs, end_entry}
+use Rattle.st_plain.specs.Frames.{by_place, HasFile, IsHeldAs, end_entry}
 use Rattle.st_plain.specs.Running.{HasBoard, IsDefinedFrom, IsKept, IsReady}
 use Rattle.st_plain.specs.Standing.{IsMachine, Stands, situation, stack_start}
 use Rattle.st_plain.specs.Threads.{NamesStand, NotesStand, HandlesStand}
-use Rattle.st_plain.proofs.Addresses.{first_address}
-use Rattle.st_plain.proofs.KeptFiles.{file_returned, frameless_arguments, picked_file}
+use Rattle.st_items.proofs.Addresses.{first_address}
+use Rattle.st_items.proofs.KeptFiles.{file_returned, frameless_arguments, picked_file}
 use Rattle.st_plain.proofs.Naming.{first_names}
 use Rattle.st_plain.proofs.Notes.{first_notes}
 use Rattle.st_plain.proofs.Rests.{first_rest, started_gives}
@@ -133,8 +133,8 @@ zeroed_at names value (suc x) held origin there = let none : Option Held = None 
 -- main's arguments are in their registers
 file_opened : (names : List Held) (ints input : ℕ) (value : ℕ → ℕ) → value 0 ≡ 0 → value 10 ≡ input → HasFile names (picked (Arguments ints 0) (write_register zeroed registers.A0 (Number input))) value
 file_opened names ints input value origin first =
-    picked_file names (Arguments ints 0) (write_register zeroed registers.A0 (Number input)) value
-    (file_returned names zeroed (Number input) value zeroed_long (λ x held there. zeroed_at names value x held origin there) first)
+    picked_file (by_place names) (Arguments ints 0) (write_register zeroed registers.A0 (Number input)) value
+    (file_returned (by_place names) zeroed (Number input) value zeroed_long (λ x held there. zeroed_at names value x held origin there) first)
 
 pub started_stands : (p : Program) (stack input pc count : ℕ) (function : Option ProgramFunction) (s : State) → stack ≤ 1048576 → input < 2 ^ 64 → pc ≡ function_address Unchanged p p.main → slice_get p.functions p.main ≡ function → started p input function ≡ Some s
     → Stands p stack (Future [] ∷ []) (situation (opened (stack_start + stack) input pc) (replicate count 0)) s
@@ -152,7 +152,7 @@ started_stands p stack input pc count (Some function) s few less at here starts 
         frameless = frameless_arguments function.ints 0 (write_register zeroed registers.A0 (Number input));
         frames = (refl, refl, (refl, refl, refl, refl));
       };
-      at = at ∙ sym (first_address p p.main function);
+      at = at ∙ sym (first_address Unchanged p p.main function);
       whole = refl;
     }
 

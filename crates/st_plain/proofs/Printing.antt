@@ -25,7 +25,7 @@ use Rattle.st_step.specs.Moves.{register, at_place}
 use Rattle.st_plain.specs.declared.cells.Note.{Note}
 use Rattle.st_plain.specs.declared.run.PlainRun.{PlainRun}
 use Rattle.st_plain.specs.declared.stop.Ending.TheVariants as endings
-use Rattle.st_plain.specs.Code.{word_index}
+use Rattle.st_items.specs.Code.{word_index}
 use Rattle.st_plain.specs.Running.{HasTables, IsAtEntry, GoesOn, EndsBy, limit_met}
 use Rattle.st_plain.specs.Standing.{situation}
 use Rattle.st_plain.specs.Threads.{NotesStand}
@@ -76,7 +76,7 @@ module _ (p : Program) (d : Data) (image : Image) (limits : Limits) (r r' : Plai
         let less = ltb-true (length out) 1048576 room in
         let long = length-append out (byte ∷ []) in
         goes_by p d limits (length r.threads.cells.items.items) r' s next names 0 (situation m r.board.words.stack) m r.board.words.stack r.threads.cells.items.items (out ++ byte ∷ []) passes (printed_by true true root room) kept.handles (omega arith) refl
-        (kept_stands p limits.stack names (situation r.machine r.board.words.stack) s next.rest tables.is_plain.accepted printing.at printing.size printing.begun refl refl)
+        (kept_stands p limits.stack names (situation r.machine r.board.words.stack) s next.rest printing.at printing.size printing.begun refl refl)
         (same_older names r.threads.cells.items.items s.rest next.rest s.rest.older next.rest.out kept.stand refl)
         (subst (λ (notes : List Note). NotesStand names (reverse notes) (next.rest.thread ∷ next.rest.parents)) (sym notes_are) kept.notes_stand)
         (ap (λ (bytes : List ℕ). bytes ++ byte ∷ []) kept.printed) kept.few_cells (omega (arith, less, long)) (let none = printing.drawn in omega (arith, none)) machine_is words_are cells_are out_is
@@ -103,6 +103,6 @@ module _ (p : Program) (d : Data) (image : Image) (limits : Limits) (r r' : Plai
       let call = polling p d image limits r names s tables.is_plain entry fork_in fork_out end touch counter done join putc in
       goes_by p d limits (length cells) r' s (record { top = advanced s.top; registers = picked Saved s.registers; rest = s.rest }) names 0 (situation m r.board.words.stack) m r.board.words.stack cells r.threads.out.items.items
       (call.limit (length cells) ∙ no_limit (limits.cells - length cells) (length s.top.bytes)) call.steps kept.handles (omega arith) refl
-      (kept_stands p limits.stack names (situation r.machine r.board.words.stack) s s.rest tables.is_plain.accepted call.at call.size call.begun refl refl)
+      (kept_stands p limits.stack names (situation r.machine r.board.words.stack) s s.rest call.at call.size call.begun refl refl)
       kept.stand (subst (λ (threads : _). NotesStand names (reverse threads.notes.items.items) (s.rest.thread ∷ s.rest.parents)) (sym threads_are) kept.notes_stand) kept.printed kept.few_cells kept.few_bytes (let none = call.drawn in omega (arith, none)) machine_is words_are
       (ap (λ threads. threads.cells.items.items) threads_are) (ap (λ threads. threads.out.items.items) threads_are)

@@ -21,7 +21,7 @@ use Rattle.st_plain.specs.declared.cells.Cell.TheVariants.{Future as FutureCell}
 use Rattle.st_plain.specs.declared.cells.Note.{Note}
 use Rattle.st_plain.specs.declared.run.PlainRun.{PlainRun}
 use Rattle.st_plain.specs.declared.stop.Ending.{Ending}
-use Rattle.st_plain.specs.Code.{word_index}
+use Rattle.st_items.specs.Code.{word_index}
 use Rattle.st_plain.specs.Running.{HasTables, IsAtEntry, GoesOn, EndsBy, IsServing, Served}
 use Rattle.st_plain.specs.Standing.{situation}
 use Rattle.st_plain.specs.Threads.{MayMake, HasCell}
@@ -30,9 +30,11 @@ use Rattle.st_plain.proofs.ForkIn.{fork_inside}
 use Rattle.st_plain.proofs.GoingBack.{back_written}
 use Rattle.st_plain.proofs.Handles as handles
 use Rattle.st_plain.proofs.Naming.{fits_length}
-use Rattle.st_plain.proofs.Registers.{IsApart}
+use Rattle.st_items.proofs.Registers.{IsApart}
 use Rattle.st_plain.proofs.RunningThread.{within_list, may_make, has_cell}
 use Rattle.st_plain.proofs.ThreadEnds.{handle_apart, out_low}
+use Rattle.st_model.specs.declared.code.Layout.TheVariants.{Unchanged}
+use Rattle.st_items.proofs.Addresses.{sized}
 
 -- ---- of an image
 
@@ -40,12 +42,12 @@ module _ (image : Image) (r : PlainRun) (serving : ∥ IsServing image r ∥₁)
   pub back_few : 0x40 ≤ r.machine.pc → register r.machine registers.Ra < 2 ^ 32
   back_few call =
       ∥∥₁_elim serving (hlevel le_prop)
-      (λ is. (back_low is.0 is.2.stack is.3 (situation r.machine r.board.words.stack) is.4 is.5.is_plain.size (call_at is.0 is.2 r is.3 is.4 is.6 (λ e. omega (arith, e, call)) (λ e. omega (arith, e, call)))).1)
+      (λ is. (back_low is.0 is.2.stack is.3 (situation r.machine r.board.words.stack) is.4 (sized Unchanged is.0 is.5.is_plain.accepted is.5.is_plain.size) (call_at is.0 is.2 r is.3 is.4 is.6 (λ e. omega (arith, e, call)) (λ e. omega (arith, e, call)))).1)
 
   pub back_least : 0x40 ≤ r.machine.pc → 0x10004 ≤ register r.machine registers.Ra
   back_least call =
       ∥∥₁_elim serving (hlevel le_prop)
-      (λ is. (back_low is.0 is.2.stack is.3 (situation r.machine r.board.words.stack) is.4 is.5.is_plain.size (call_at is.0 is.2 r is.3 is.4 is.6 (λ e. omega (arith, e, call)) (λ e. omega (arith, e, call)))).0)
+      (λ is. (back_low is.0 is.2.stack is.3 (situation r.machine r.board.words.stack) is.4 (sized Unchanged is.0 is.5.is_plain.accepted is.5.is_plain.size) (call_at is.0 is.2 r is.3 is.4 is.6 (λ e. omega (arith, e, call)) (λ e. omega (arith, e, call)))).0)
 
   pub line_inside : 0x40 ≤ r.machine.pc → word_index (register r.machine registers.Ra - 4) < length image.lines
   line_inside call =
@@ -100,7 +102,7 @@ module _ (r : PlainRun) (serving : ∥ ((image : Image) × IsServing image r) �
   pub way_back : r.machine.pc ≢ 0x20 → r.machine.pc ≢ 0x30 → (0x10004 ≤ register r.machine registers.Ra) × (register r.machine registers.Ra < 2 ^ 32)
   way_back not_out not_end =
       ∥∥₁_elim serving (hlevel le_prop)
-      (λ is. back_low is.1.0 is.1.2.stack is.1.3 (situation r.machine r.board.words.stack) is.1.4 is.1.5.is_plain.size (call_at is.1.0 is.1.2 r is.1.3 is.1.4 is.1.6 not_out not_end))
+      (λ is. back_low is.1.0 is.1.2.stack is.1.3 (situation r.machine r.board.words.stack) is.1.4 (sized Unchanged is.1.0 is.1.5.is_plain.accepted is.1.5.is_plain.size) (call_at is.1.0 is.1.2 r is.1.3 is.1.4 is.1.6 not_out not_end))
 
   pub make_room : r.threads.cells.most ≤ 65536 → MayMake (reverse r.threads.notes.items.items)
   make_room few =

@@ -1,13 +1,12 @@
 -- The entries that end a thread: at the root's the run ends (end_done), at another's the thread's value comes into its cell and its parent goes on
 -- behind its fork with the future (out_goes).
-use Rattle.std.proofs.Common.{◌≡◌, ℕ, ◌+◌, ◌-◌, ◌^◌, ◌<◌, ◌≤◌, true, false, List, [], ◌∷◌, length, Option, Some, None, slice_get, slice_set, refl, ap, sym, ◌∙◌, subst, arith}
-use Rattle.std.specs.Prelude.{reverse, slice_index_or}
+use Rattle.std.proofs.Common.{◌≡◌, inr, ℕ, ◌+◌, ◌-◌, ◌^◌, ◌<◌, ◌≤◌, List, [], ◌∷◌, length, Option, Some, slice_get, slice_set, refl, ap, sym, ◌∙◌, subst, arith}
+use Rattle.std.specs.Prelude.{reverse}
 use Rattle.std.proofs.lemmas.List.{length-set}
 use Rattle.st_base.specs.declared.image.Image.{Image}
 use Rattle.st_base.specs.declared.limits.Limits.{Limits}
 use Rattle.st_base.specs.declared.reg.Reg.{Reg}
 use Rattle.st_base.specs.declared.reg.Reg.TheVariants as registers
-use Rattle.st_base.specs.Reg.{reg_number}
 use Rattle.st_base.specs.declared.thread.Activation.{Activation}
 use Rattle.st_base.specs.declared.thread.ActivationKind.{ActivationKind}
 use Rattle.st_base.specs.declared.thread.ActivationKind.TheVariants.{Called, Forked, Root}
@@ -17,13 +16,14 @@ use Rattle.st_base.specs.Registers.{write_register}
 use Rattle.st_model.specs.declared.ordinary.State.{State}
 use Rattle.st_model.specs.declared.ordinary.Tally.{Tally}
 use Rattle.st_model.specs.declared.ordinary.Turn.TheVariants.{Goes as Goes'}
+use Rattle.st_model.specs.declared.code.Layout.TheVariants.{Unchanged}
+use Rattle.st_model.specs.declared.program.Item.{Item}
 use Rattle.st_model.specs.declared.program.ItemKind.{ItemKind}
 use Rattle.st_model.specs.declared.program.ItemKind.TheVariants as items
 use Rattle.st_model.specs.declared.program.Program.{Program}
 use Rattle.st_model.specs.declared.program.ProgramFunction.{ProgramFunction}
-use Rattle.st_model.specs.Accepted.{IsAccepted, Fits, MayWrite}
+use Rattle.st_model.specs.Accepted.{Fits}
 use Rattle.st_model.specs.Effect.{File, with_number, left_by}
-use Rattle.st_model.specs.Flow.{between}
 use Rattle.st_model.specs.Layout.{saved_of}
 use Rattle.st_model.specs.Memory.{Data}
 use Rattle.st_model.specs.Ordinary.{step, apply, ended_in}
@@ -34,16 +34,20 @@ use Rattle.st_plain.specs.declared.cells.Cell.TheVariants.{Future as FutureCell}
 use Rattle.st_plain.specs.declared.cells.Note.{Note}
 use Rattle.st_plain.specs.declared.run.PlainRun.{PlainRun}
 use Rattle.st_plain.specs.declared.stop.Ending.TheVariants as endings
-use Rattle.st_step.specs.Frames.{value_in, is_kept, IsFrameless, HoldsKept, with_saved_values}
-use Rattle.st_plain.specs.Frames.{IsCaller, Below}
+use Rattle.st_step.specs.Frames.{value_in, with_saved_values}
+use Rattle.st_plain.specs.Frames.{by_place, IsCaller, Below}
 use Rattle.st_plain.specs.Running.{HasTables, IsAtEntry, GoesOn, EndsBy}
 use Rattle.st_plain.specs.Standing.{stack_start, situation, EndsAt, Stands}
 use Rattle.st_plain.specs.Threads.{NotesStand, ForksInto, IsBehindFork, HandlesStand}
-use Rattle.st_plain.proofs.Addresses.{place_bounds}
+use Rattle.st_items.proofs.Addresses.{sized, place_bounds}
+use Rattle.st_items.specs.Code.{HasItem}
 use Rattle.st_plain.proofs.AtEntry.{IsEnding, ending}
-use Rattle.st_plain.proofs.GoingBack.{IsFramed, frames_of, framed_written, written_machine, goes_by}
+use Rattle.st_plain.proofs.GoingBack.{goes_by}
+use Rattle.st_plain.proofs.OnItems.{Stacked, stacked_sees, ends_at, are_ends, on_ends, stands_at}
 use Rattle.st_plain.proofs.Naming.{ended_rest, fits_length, after_end}
-use Rattle.st_plain.proofs.Registers.{IsApart, file_written, frameless_written}
+use Rattle.st_items.proofs.Ending.{caller_body, parent_goes_on}
+use Rattle.st_items.proofs.ItemCode.{formed_of}
+use Rattle.st_items.proofs.Registers.{IsApart, body_apart, fork_handle}
 use Rattle.st_plain.proofs.RunEnds.{done_ends}
 use Rattle.st_plain.proofs.RunningThread.{within_list}
 
@@ -61,33 +65,30 @@ forked_at Root ret entry ra ends is = absurd (omega (arith, ends, is))
 
 -- ---- its fork
 
--- a fork's register is none of ra, sp and s0, and its function saves it
-fork_register : (p : Program) (function : ProgramFunction) (kind : ItemKind) (handle : Reg) → Fits p function kind → ForksInto handle kind → IsApart handle × MayWrite function handle
-fork_register p function (items.Fork f r) handle fits into =
-    let high : between 24 28 (reg_number handle) ≡ true = ap (λ (x : Reg). between 24 28 (reg_number x)) into ∙ fits.1 in (
-      record {
-        ra = λ e. let low = ap (between 24 28) e in let never : ⊥ = cc in never;
-        sp = λ e. let low = ap (between 24 28) e in let never : ⊥ = cc in never;
-        fp = λ e. let low = ap (between 24 28) e in let never : ⊥ = cc in never;
-      },
-      subst (MayWrite function) (sym into) fits.2,
-    )
-fork_register p function items.Prologue handle fits into = absurd into
-fork_register p function items.Epilogue handle fits into = absurd into
-fork_register p function (items.Plain i) handle fits into = absurd into
-fork_register p function (items.Li rd value) handle fits into = absurd into
-fork_register p function (items.Branch op rs1 rs2 to) handle fits into = absurd into
-fork_register p function (items.Jump to) handle fits into = absurd into
-fork_register p function (items.Call f) handle fits into = absurd into
-fork_register p function (items.Entry at) handle fits into = absurd into
+fork_of : (handle : Reg) (kind : ItemKind) → ForksInto handle kind → (g : ℕ) × (kind ≡ items.Fork g handle)
+fork_of handle (items.Fork g r) into = (g, ap (λ (x : Reg). items.Fork g x) (sym into))
+fork_of handle items.Prologue into = absurd into
+fork_of handle items.Epilogue into = absurd into
+fork_of handle (items.Plain i) into = absurd into
+fork_of handle (items.Li rd value) into = absurd into
+fork_of handle (items.Branch op rs1 rs2 to) into = absurd into
+fork_of handle (items.Jump to) into = absurd into
+fork_of handle (items.Call f) into = absurd into
+fork_of handle (items.Entry at) into = absurd into
 
-handle_register : (p : Program) (function : ProgramFunction) (handle : Reg) (a : Activation) → IsAccepted p → slice_get p.functions a.function ≡ Some function → IsBehindFork p handle a → IsApart handle × MayWrite function handle
-handle_register p function handle a accepted here behind =
+-- the fork behind which an activation goes on
+record ForkOf (p : Program) (function : ProgramFunction) (handle : Reg) (a : Activation) : Type 0 where
+  item : Item
+  has : HasItem p a.function function (a.next - 1) item
+  g : ℕ
+  kind : item.kind ≡ items.Fork g handle
+
+fork_behind : (p : Program) (function : ProgramFunction) (handle : Reg) (a : Activation) → slice_get p.functions a.function ≡ Some function → IsBehindFork p handle a → ForkOf p function handle a
+fork_behind p function handle a here behind =
     let there = behind.here in
     let same : behind.function ≡ function = cc in
-    let placed = behind.placed in
-    let placed_here : slice_get function.items (a.next - 1) ≡ Some behind.item = ap (λ (g : ProgramFunction). slice_get g.items (a.next - 1)) (sym same) ∙ placed in
-    fork_register p function behind.item.kind handle ((accepted.functions a.function function here).formed.fits (a.next - 1) behind.item placed_here) behind.forks
+    let (g, kind) = fork_of handle behind.item.kind behind.forks in
+    record { item = behind.item; has = record { named = here; placed = ap (λ (f : ProgramFunction). slice_get f.items (a.next - 1)) (sym same) ∙ behind.placed }; g = g; kind = kind }
 
 -- the parent, which is behind the fork
 record HasForked (p : Program) (names : List Held) (word : ℕ → ℕ) (high : ℕ) (value : ℕ → ℕ) (low fp ret : ℕ) (kept : File) (handle : Reg) (older : List Activation) (parents : List Tally) : Type 0 where
@@ -108,18 +109,6 @@ forked_below p names word high value low fp ret kept handle [] parents below sta
 forked_below p names word high value low fp ret kept handle (a ∷ older) [] below stand = absurd below.2
 forked_below p names word high value low fp ret kept handle (a ∷ older) (t ∷ ts) below stand =
     record { a = a; others = older; t = t; ts = ts; older_are = refl; parents_are = refl; function = below.0; caller = below.1; below = below.3; behind = stand.0 }
-
-nothing_at : (kept : File) (x : ℕ) (o : Option Held) → HoldsKept kept → is_kept x ≡ false → slice_index_or kept x None ≡ o → o ≡ None
-nothing_at kept x None holds other is = refl
-nothing_at kept x (Some held) holds other is = let kept_there = holds x held is in absurd (let never : ⊥ = cc in never)
-
-frameless_kept : (kept : File) → length kept ≡ 32 → HoldsKept kept → IsFrameless kept
-frameless_kept kept long holds = record {
-  long = long;
-  ra = nothing_at kept 1 (slice_index_or kept 1 None) holds refl refl;
-  sp = nothing_at kept 2 (slice_index_or kept 2 None) holds refl refl;
-  fp = nothing_at kept 8 (slice_index_or kept 8 None) holds refl refl;
-}
 
 -- ---- the ends
 
@@ -154,8 +143,13 @@ module _ (p : Program) (d : Data) (image : Image) (limits : Limits) (r r' : Plai
         (subst (λ (kind : ActivationKind). Below p names word (stack_start + limits.stack) (value_in r.machine) (register r.machine registers.Sp) (register r.machine registers.S0) leaving.at.ret kind s.top.kept s.rest.older s.rest.parents) kind_is.0 leaving.at.below)
         (subst (λ (handle : Reg). HandlesStand p Forked s.rest.older handle s.rest.parents) (sym notes_stand.0.handle) (subst (λ (kind : ActivationKind). HandlesStand p kind s.rest.older s.rest.thread.handle s.rest.parents) kind_is.0 entry.kept.handles))
 
+    fork : ForkOf p forker.function note.handle forker.a
+    fork = fork_behind p forker.function note.handle forker.a forker.caller.here forker.behind
+
     pub handle_apart : IsApart note.handle
-    handle_apart = (handle_register p forker.function note.handle forker.a tables.is_plain.accepted forker.caller.here forker.behind).0
+    handle_apart =
+        let fits : Fits p forker.function (items.Fork fork.g note.handle) = subst (λ (k : ItemKind). Fits p forker.function k) fork.kind ((formed_of p forker.a.function forker.function tables.is_plain.accepted fork.has.named).fits (forker.a.next - 1) fork.item fork.has.placed) in
+        body_apart note.handle (inr (fork_handle note.handle fits.1))
 
     -- the parent's next item lies low
     pub out_low : register r.machine registers.Ra < 2 ^ 32
@@ -163,7 +157,7 @@ module _ (p : Program) (d : Data) (image : Image) (limits : Limits) (r r' : Plai
         let caller = forker.caller in
         let ra = kind_is.1 in
         let back = caller.back.0 in
-        let bounds = place_bounds p forker.a.function forker.function forker.a.next tables.is_plain.size caller.here in
+        let bounds = place_bounds Unchanged p forker.a.function forker.function forker.a.next (sized Unchanged p tables.is_plain.accepted tables.is_plain.size) caller.here in
         omega (arith, ra, back, bounds.1)
 
     next : State
@@ -176,26 +170,20 @@ module _ (p : Program) (d : Data) (image : Image) (limits : Limits) (r r' : Plai
     out_stands : note.cell < 2 ^ 64 → Stands p limits.stack names (situation (at_place (register r.machine registers.Ra) (written r.machine note.handle note.cell)) r.board.words.stack) next
     unfolding next
     out_stands less =
+        let stack = limits.stack in
         let t = situation r.machine r.board.words.stack in
-        let pc = register r.machine registers.Ra in
+        let sp = register r.machine registers.Sp in
+        let low = register r.machine registers.S0 in
+        let machine = leaving.at.machine in
+        let above = machine.above in
         let caller = forker.caller in
-        let may = (handle_register p forker.function note.handle forker.a tables.is_plain.accepted caller.here forker.behind).1 in
-        let name = Future s.rest.thread.path in
-        let frame : IsFramed p limits.stack names t forker.function forker.a forker.others forker.ts = record { base = caller.base; slots = caller.slots; below = forker.below } in
-        record {
-          stands = record {
-            function = forker.function;
-            here = caller.here;
-            machine = written_machine limits.stack t note.handle note.cell pc handle_apart.sp less leaving.at.machine;
-            file = file_written names s.top.kept r.machine note.handle note.cell name caller.long leaving.at.machine.has_registers caller.file notes_stand.0.cell;
-            frameless = frameless_written s.top.kept note.handle name handle_apart (frameless_kept s.top.kept caller.long caller.holds);
-            frames =
-                frames_of p limits.stack names (situation (at_place pc (written r.machine note.handle note.cell)) r.board.words.stack) forker.function next forker.a.next caller.begun
-                (framed_written p limits.stack names t forker.function forker.a forker.others forker.ts note.handle note.cell pc tables.is_plain.accepted handle_apart.sp handle_apart.fp may frame);
-          };
-          at = kind_is.1 ∙ caller.back.0;
-          whole = refl;
-        }
+        let base = caller.base in
+        let lower = Stacked p stack names low forker.others forker.ts in
+        let sees = stacked_sees p stack names low sp (sp + forker.function.frame_bytes) forker.others forker.ts tables.is_plain.accepted (omega arith) (omega arith) in
+        let body = caller_body Unchanged p (by_place names) lower sp forker.function forker.a (ends_at t) t Forked s.top.kept leaving.at.ret (on_ends stack t machine) (caller, forker.below) in
+        let at = parent_goes_on Unchanged p (by_place names) lower sp forker.function forker.a (ends_at t) t s.top.kept (register r.machine registers.A0) fork.item fork.g note.handle (Future s.rest.thread.path) note.cell tables.is_plain.accepted sees fork.has fork.kind notes_stand.0.cell less
+        (record { body = body; begun = caller.begun; at = is_out; back = kind_is.1 ∙ caller.back.0; value_is = refl; whole = leaving.at.whole }) in
+        stands_at p stack names (ends_at t) sp low (situation (at_place (register r.machine registers.Ra) (written r.machine note.handle note.cell)) r.board.words.stack) next forker.function forker.others forker.ts (are_ends stack t machine) refl base refl refl at
 
     out_steps : step p d s ≡ Goes' next
     unfolding next

@@ -32,11 +32,12 @@ use Rattle.st_plain.specs.Answer.{IsPlainImage, answer_of, bounds_of}
 use Rattle.st_plain.specs.Endings.{end_by}
 use Rattle.st_plain.specs.Running.{EndsBy, HasTables, IsDefinedFrom, IsReady, IsUnderWay, TurnLeads}
 use Rattle.std.proofs.lemmas.Option.{slice_get_within}
-use Rattle.st_plain.specs.Code.{word_index}
-use Rattle.st_plain.proofs.Addresses.{place_bounds}
+use Rattle.st_items.specs.Code.{word_index}
+use Rattle.st_items.proofs.Addresses.{place_bounds, sized}
 use Rattle.st_plain.proofs.ItemBegins.{begins_ready}
 use Rattle.st_plain.proofs.ItemTurns.{none_left}
 use Rattle.st_plain.proofs.OneTurn.{beginning_inside}
+use Rattle.st_model.specs.declared.code.Layout.TheVariants.{Unchanged}
 
 -- ---- the first state
 
@@ -135,7 +136,7 @@ none_begins p image d limits r left made begun (inr x) ready amid less = let non
 pub at_entry : (p : Program) (image : Image) (d : Data) (limits : Limits) (r : PlainRun) (left made : ℕ) → r.machine.pc < 0x10000 → Stage p image d limits r left made → IsInItem p image d limits r left made
 at_entry p image d limits r left made low (inl at) =
     let stands = at.0.ready.at.stands in
-    let high = (place_bounds p at.0.s.top.function stands.stands.function at.0.s.top.next at.0.ready.tables.is_plain.size stands.stands.here).0 in
+    let high = (place_bounds Unchanged p at.0.s.top.function stands.stands.function at.0.s.top.next (sized Unchanged p at.0.ready.tables.is_plain.accepted at.0.ready.tables.is_plain.size) stands.stands.here).0 in
     let there = stands.at in
     absurd (omega (arith, low, high, there))
 at_entry p image d limits r left made low (inr x) = x.0

@@ -1,5 +1,4 @@
 pub mod Answer
-pub mod Code
 pub mod Frames
 pub mod Threads
 pub mod Endings

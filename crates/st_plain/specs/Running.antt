@@ -1,18 +1,15 @@
--- A run of unchanged code on its way: what the machine, the cells and the notes stand for. Read IsAt (a run at an item's first instruction),
--- OnWay (the rest of an item's instructions) and Leads (an item's first instruction and the rest).
-use Rattle.std.specs.Prelude.{IfSome, ◌≡◌, ◌≢◌, ◌⊎◌, ℕ, zero, suc, ◌+◌, ◌-◌, ◌*◌, ◌/◌, ◌<◌, ◌≤◌, List, [], ◌∷◌, length, replicate, reverse, Option, Some, None}
+-- A run of unchanged code on its way: what the machine, the cells and the notes stand for. Read IsAt (a run at an item's first instruction) and
+-- IsAmid (a run amid an item).
+use Rattle.std.specs.Prelude.{IfSome, ◌≡◌, ◌≢◌, ◌⊎◌, ℕ, ◌+◌, ◌-◌, ◌/◌, ◌<◌, ◌≤◌, List, [], ◌∷◌, length, replicate, reverse, Option, Some, None}
 use Rattle.st_base.specs.declared.thread.Held.{Held}
 use Rattle.st_base.specs.declared.image.Image.{Image}
 use Rattle.st_base.specs.declared.limits.Limits.{Limits}
 use Rattle.st_base.specs.declared.limits.LimitKind.{LimitKind}
 use Rattle.st_base.specs.declared.reg.Reg.TheVariants as registers
-use Rattle.st_rv.specs.declared.ins.Ins.{Ins}
-use Rattle.st_model.specs.declared.program.Item.{Item}
 use Rattle.st_model.specs.declared.program.Program.{Program}
-use Rattle.st_model.specs.declared.program.ProgramFunction.{ProgramFunction}
 use Rattle.st_model.specs.declared.code.Layout.TheVariants.{Unchanged}
 use Rattle.st_model.specs.declared.ordinary.State.{State}
-use Rattle.st_model.specs.Layout.{item_size, code_of}
+use Rattle.st_model.specs.Layout.{code_of}
 use Rattle.st_model.specs.Memory.{Data}
 use Rattle.st_model.specs.Ordinary.{run, step, item_at}
 use Rattle.st_model.specs.declared.ordinary.OrdEnd.{OrdEnd}
@@ -20,8 +17,7 @@ use Rattle.st_model.specs.declared.ordinary.Turn.TheVariants.{Undefined, Goes, O
 use Rattle.st_model.specs.Bounded.{BoundedEnd, limit_at}
 use Rattle.st_model.specs.Draws.{drawn_by}
 use Rattle.st_step.specs.declared.state.State.{State as MachineState}
-use Rattle.st_step.specs.Moves.{move_of}
-use Rattle.st_step.specs.Runs.{Situation, moved}
+use Rattle.st_step.specs.Runs.{Situation}
 use Rattle.st_plain.specs.declared.cells.Cell.{Cell}
 use Rattle.st_plain.specs.declared.cells.Note.{Note}
 use Rattle.st_words.specs.declared.plain.PlainBoard.{PlainBoard}
@@ -32,40 +28,11 @@ use Rattle.st_plain.specs.declared.stop.Ending.{Ending}
 use Rattle.st_plain.specs.declared.stop.Ending.TheVariants as endings
 use Rattle.st_plain.specs.declared.whole.PlainEnd.TheVariants as PlainEnds
 use Rattle.st_plain.specs.Answer.{IsPlainImage, end_of}
-use Rattle.st_plain.specs.Code.{begins_of, code_at, item_address, handles_of, instructions_of, HasItem}
+use Rattle.st_items.specs.Tables.{begins_of, handles_of, instructions_of}
+use Rattle.st_items.specs.Ways.{OnWay}
 use Rattle.st_plain.specs.Standing.{on_stack, situation, Stands, AtCall, AtEnd}
 use Rattle.st_plain.specs.Endings.{end_by}
 use Rattle.st_plain.specs.Threads.{NamesStand, NotesStand, HandlesStand}
-
--- at a word of an item behind its first, or in the middle of a short store
-pub record IsBehind (p : Program) (pc : ℕ) : Type 0 where
-  pub f : ℕ
-  pub function : ProgramFunction
-  pub i : ℕ
-  pub item : Item
-  pub has : HasItem p f function i item
-  pub k : ℕ
-  pub some : 0 < k
-  pub few : k < item_size Unchanged function item.kind
-  pub at : pc ≡ item_address p f function i + 4 * k
-
-abbrev pub IsInside : Program → MachineState → Type 0
-IsInside p m = (m.half ≢ None) ⊎ IsBehind p m.pc
-
--- the instruction at the pc goes to another situation
-pub record Makes (p : Program) (d : Data) (stack : ℕ) (s u : Situation) : Type 0 where
-  pub ins : Ins
-  pub there : code_at p s.state.pc ≡ Some ins
-  pub goes : moved (on_stack stack) s (move_of d s.state ins) ≡ Some u
-
--- so many instructions, all of them inside of items, lead to a situation
-abbrev pub OnWay : Program → Data → ℕ → ℕ → Situation → Situation → Type 0
-OnWay p d stack zero s t = s ≡ t
-OnWay p d stack (suc n) s t = IsInside p s.state × ((u : Situation) × Makes p d stack s u × OnWay p d stack n u t)
-
--- an item's first instruction and the rest of it, which is at most 20 more
-abbrev pub Leads : Program → Data → ℕ → Situation → Situation → Type 0
-Leads p d stack s t = (u : Situation) × Makes p d stack s u × ((n : ℕ) × (n ≤ 20) × OnWay p d stack n u t)
 
 -- what the cells, the notes (the newest last) and the printed bytes stand for
 pub record IsKept (p : Program) (limits : Limits) (names : List Held) (cells : List Cell) (notes : List Note) (out : List ℕ) (s : State) : Type 0 where
@@ -104,7 +71,7 @@ pub record ComesTo (p : Program) (d : Data) (limits : Limits) (r : PlainRun) (s'
   pub n : ℕ
   pub few : n ≤ 20
   pub t : Situation
-  pub way : OnWay p d limits.stack n (situation r.machine r.board.words.stack) t
+  pub way : OnWay Unchanged p d (on_stack limits.stack) n (situation r.machine r.board.words.stack) t
   pub stands : Stands p limits.stack names t s'
   pub kept : IsKept p limits names r.threads.cells.items.items r.threads.notes.items.items r.threads.out.items.items s'
 
@@ -170,7 +137,7 @@ pub record Calls (p : Program) (d : Data) (limits : Limits) (drawn : ℕ) (r : P
   pub small : n ≤ 20
   pub few : n + 21 ≤ left
   pub t : Situation
-  pub way : OnWay p d limits.stack n (situation r.machine r.board.words.stack) t
+  pub way : OnWay Unchanged p d (on_stack limits.stack) n (situation r.machine r.board.words.stack) t
   pub at : AtCall p limits.stack names t s ⊎ AtEnd p limits.stack names t s
   pub kept : IsKept p limits names r.threads.cells.items.items r.threads.notes.items.items r.threads.out.items.items s
   pub drawn_yet : length r.threads.cells.items.items ≡ drawn

@@ -5,19 +5,19 @@ use Rattle.st_base.specs.declared.reg.Reg.TheVariants as registers
 use Rattle.st_base.specs.declared.thread.Held.{Held}
 use Rattle.st_base.specs.declared.thread.ActivationKind.{ActivationKind}
 use Rattle.st_base.specs.declared.thread.ActivationKind.TheVariants.{Called, Forked, Root}
+use Rattle.st_model.specs.declared.code.Layout.TheVariants.{Unchanged}
 use Rattle.st_model.specs.declared.program.Item.{Item}
-use Rattle.st_model.specs.declared.program.ItemKind.{ItemKind}
-use Rattle.st_model.specs.declared.program.ItemKind.TheVariants.{Epilogue, Entry, Fork}
+use Rattle.st_model.specs.declared.program.ItemKind.TheVariants.{Epilogue}
 use Rattle.st_model.specs.declared.program.Program.{Program}
 use Rattle.st_model.specs.declared.program.ProgramFunction.{ProgramFunction}
 use Rattle.st_model.specs.declared.ordinary.State.{State}
 use Rattle.st_model.specs.Effect.{int}
-use Rattle.st_model.specs.Layout.{saved_of, fork_in, fork_out}
+use Rattle.st_model.specs.Layout.{saved_of, fork_out}
 use Rattle.st_step.specs.declared.state.State.{State as MachineState}
 use Rattle.st_step.specs.Moves.{register}
 use Rattle.st_step.specs.Runs.{Situation, HasRegisters, AreWords, AreValues, return_word, caller_word}
-use Rattle.st_plain.specs.Code.{item_address}
-use Rattle.st_step.specs.Frames.{value_in, IsFrameless, with_saved_values}
+use Rattle.st_items.specs.Called.{Enters}
+use Rattle.st_step.specs.Frames.{address_in, value_in, IsFrameless, with_saved_values}
 use Rattle.st_plain.specs.Frames.{HasFile, HasSlots, end_entry, Below}
 
 -- the stack begins here
@@ -59,14 +59,8 @@ pub record StandsIn (p : Program) (stack : ℕ) (names : List Held) (t : Situati
 -- at the first instruction of its item
 pub record Stands (p : Program) (stack : ℕ) (names : List Held) (t : Situation) (s : State) : Type 0 where
   pub stands : StandsIn p stack names t s
-  pub at : t.state.pc ≡ item_address p s.top.function stands.function s.top.next
+  pub at : t.state.pc ≡ address_in Unchanged p s.top.function stands.function s.top.next
   pub whole : t.state.half ≡ None
-
--- the entry that an item calls with its first word
-abbrev pub Enters : ItemKind → ℕ → Type 0
-Enters (Entry at) entry = entry ≡ at
-Enters (Fork f handle) entry = entry ≡ fork_in
-Enters _ entry = ⊥
 
 -- at an entry, which goes on behind the word that called it
 pub record AtCall (p : Program) (stack : ℕ) (names : List Held) (t : Situation) (s : State) : Type 0 where
@@ -74,7 +68,7 @@ pub record AtCall (p : Program) (stack : ℕ) (names : List Held) (t : Situation
   pub item : Item
   pub placed : slice_get stands.function.items s.top.next ≡ Some item
   pub enters : Enters item.kind t.state.pc
-  pub back : register t.state registers.Ra ≡ item_address p s.top.function stands.function s.top.next + 4
+  pub back : register t.state registers.Ra ≡ address_in Unchanged p s.top.function stands.function s.top.next + 4
   pub whole : t.state.half ≡ None
 
 -- the entry that ends a thread: of a forked one the third jump of its fork calls it, from where the call came back to

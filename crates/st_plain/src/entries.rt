@@ -12,11 +12,10 @@ ghost use Rattle.st_model.specs.Memory.{Data};
 ghost use Rattle.st_model.specs.Ordinary.{step, counted};
 ghost use Rattle.st_step.specs.Moves.{register, at_place};
 ghost use Rattle.st_plain.specs.declared.stop.Ending.TheVariants.{Limit, Trap};
-ghost use Rattle.st_plain.specs.Code.{word_index};
+ghost use Rattle.st_items.specs.Code.{word_index};
 ghost use Rattle.st_plain.specs.Running.{EndsBy, GoesOn, HasTables, IsAtEntry, IsServing, Served};
 
 use crate::cells::Cell;
-use crate::code::word_index;
 use crate::run::PlainRun;
 use crate::stop::Ending;
 use st_base::image::Image;
@@ -24,6 +23,7 @@ use st_base::limits::LimitKind;
 use st_base::line::Line;
 use st_base::reg::Reg;
 use st_base::thread::TrapKind;
+use st_items::code::word_index;
 
 const FORK_IN: u32 = 0x10;
 

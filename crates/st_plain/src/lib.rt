@@ -2,7 +2,6 @@
 #![tactic(auto)]
 
 mod cells;
-mod code;
 mod entries;
 mod reserved;
 mod run;

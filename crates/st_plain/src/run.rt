@@ -12,9 +12,8 @@ ghost use Rattle.st_words.specs.Views.{no_cargo};
 ghost use Rattle.st_plain.specs.Answer.{HasProgram, IsPlainImage};
 ghost use Rattle.st_plain.specs.Endings.{end_by};
 ghost use Rattle.st_plain.specs.Running.{EndsBy, HasBoard, IsDefinedFrom, IsReady, IsUnderWay, TurnLeads};
-ghost use Rattle.st_plain.specs.Code.{word_index};
+ghost use Rattle.st_items.specs.Code.{word_index};
 
-use crate::code::{Code, word_index};
 use crate::stop::Ending;
 use crate::threads::Threads;
 use crate::whole::PlainEnd;
@@ -23,6 +22,7 @@ use st_base::image::Image;
 use st_base::limits::{LimitKind, Limits};
 use st_base::map::{CODE_START, STACKS_START};
 use st_base::reg::Reg;
+use st_items::code::{Code, word_index};
 use st_step::{Machine, StepEnd};
 use st_words::board::NamesView;
 use st_words::plain::PlainBoard;

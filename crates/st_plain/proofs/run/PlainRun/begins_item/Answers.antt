@@ -1,11 +1,15 @@
 -- At an item's first instruction its row has true; amid an item it has false.
-use Rattle.std.proofs.Common.{◌≡◌, ◌<◌, ℕ, Bool, List, Some, true, false, get_or, length, slice_get, refl, ap, sym, ◌∙◌, subst}
-use Rattle.std.proofs.lemmas.Option.{same_Some, slice_get_read}
+use Rattle.std.proofs.Common.{◌≡◌, ◌<◌, ℕ, Bool, List, Option, option_map, Some, true, false, get_or, length, slice_get, refl, ap, sym, ◌∙◌, subst}
+use Rattle.std.proofs.lemmas.Option.{same_Some, slice_get_read, slice_get-map}
 use Rattle.st_step.specs.declared.decoded.Decoded.{Decoded}
-use Rattle.st_plain.specs.Code.{begins_of, word_index}
-use Rattle.st_plain.proofs.Decoding.{marked_at}
+use Rattle.st_items.specs.Code.{word_index}
+use Rattle.st_items.specs.Tables.{begins_of}
 use Rattle.st_plain.proofs.ItemBegins.{amid_elsewhere, begins_ready, whole_where}
 use Rattle.st_plain.proofs.run.PlainRun.begins_item.Goals as goal
+
+-- the mark at a place of a table
+marked_at : (table : List Decoded) (at : ℕ) (s : Decoded) → slice_get table at ≡ Some s → slice_get (begins_of table) at ≡ Some s.begins
+marked_at table at s e = slice_get-map (λ (t : Decoded). t.begins) table at ∙ ap (λ (o : Option Decoded). option_map (λ (t : Decoded). t.begins) o) e
 
 -- what is read is what the table has
 read : (table : List Decoded) (begins : List Bool) (pc said at : ℕ) (s : Decoded) (b : Bool) → begins_of table ≡ begins → at ≡ word_index said → said ≡ pc → word_index pc < length table → s ≡ get_or table at s → slice_get begins (word_index pc) ≡ Some b → s.begins ≡ b

@@ -9,9 +9,10 @@ use Rattle.st_base.specs.declared.line.Line.{Line}
 use Rattle.st_plain.specs.declared.stop.Ending.TheVariants as endings
 use Rattle.st_model.specs.Memory.{data_of}
 use Rattle.st_step.specs.Moves.{move_of}
-use Rattle.st_plain.specs.Code.{instructions_of, word_index}
+use Rattle.st_items.specs.Code.{word_index}
+use Rattle.st_items.specs.Tables.{instructions_of}
 use Rattle.st_plain.specs.Running.{EndsBy}
-use Rattle.st_plain.proofs.Decoding.{decoded_at}
+use Rattle.st_items.proofs.Decoding.{decoded_at}
 use Rattle.st_plain.proofs.Executing.{MovesOf, SpeaksWithin, keeps_board, may_execute}
 use Rattle.st_plain.proofs.OneTurn.{TurnsAs, code_bounded, code_inside, code_within, instruction_turns, line_inside}
 use Rattle.st_plain.proofs.run.PlainRun.instruction.Goals as goal
