@@ -48,17 +48,17 @@ within [] q is = absurd (let never : ⊥ = cc in never)
 within (x ∷ held) zero is = omega arith
 within (x ∷ held) (suc q) is = let rest = within held q is in omega arith
 
-stored_cut : (held : List (Option ℕ)) (g : Frame) → is_held held (return_word g.base) ≡ true → IsCut (word_in held) (word_in (slice_set held (return_word g.base) (Some 0x30))) g
+pub stored_cut : (held : List (Option ℕ)) (g : Frame) → is_held held (return_word g.base) ≡ true → IsCut (word_in held) (word_in (slice_set held (return_word g.base) (Some 0x30))) g
 stored_cut held g is = record {
   cut = ap number_or (get_or-set_same held (return_word g.base) (Some 0x30) None (within held (return_word g.base) is));
   others = λ q other. ap number_or (sym (get_or-set_other held (return_word g.base) q (Some 0x30) None other));
 }
 
-still_held : (held : List (Option ℕ)) (p q : ℕ) → is_held held p ≡ true → (q ≡ p) ⊎ (q ≢ p) → is_held held q ≡ true → is_held (slice_set held p (Some 0x30)) q ≡ true
+pub still_held : (held : List (Option ℕ)) (p q : ℕ) → is_held held p ≡ true → (q ≡ p) ⊎ (q ≢ p) → is_held held q ≡ true → is_held (slice_set held p (Some 0x30)) q ≡ true
 still_held held p q is (inl same) here = ap (is_held (slice_set held p (Some 0x30))) same ∙ ap is_some (get_or-set_same held p (Some 0x30) None (within held p is))
 still_held held p q is (inr other) here = ap is_some (get_or-set_other held p q (Some 0x30) None other) ∙ here
 
-decide : (p q : ℕ) → (q ≡ p) ⊎ (q ≢ p)
+pub decide : (p q : ℕ) → (q ≡ p) ⊎ (q ≢ p)
 decide p q = grind arith
 
 more_held : (held held' : List (Option ℕ)) → ((q : ℕ) → is_held held q ≡ true → is_held held' q ≡ true) → (fs : List Frame) → AllSame (is_held held) (is_held held') (word_in held') (word_in held') fs

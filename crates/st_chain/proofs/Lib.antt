@@ -4,3 +4,7 @@ pub mod Restarting
 pub mod Cutting
 pub mod Copying
 pub mod LawsHold
+pub mod ForkPlaces
+pub mod Joining
+pub mod Walked
+pub mod Suspending

@@ -18,6 +18,7 @@ use Rattle.st_model.specs.Memory.{Data}
 use Rattle.st_model.specs.Ordinary.{start}
 use Rattle.st_model.specs.declared.ordinary.State.{State}
 use Rattle.st_words.specs.declared.view.Cargo.{Cargo}
+use Rattle.st_items.specs.Body.{Context}
 use Rattle.st_step.specs.Frames.{Naming, IsHeldAs, HoldsKept, is_kept}
 use Rattle.st_chain.specs.Walk.{word_in, is_held, named_by, FromNewest}
 use Rattle.st_chain.specs.Threads.{AtEnd}
@@ -48,11 +49,15 @@ WaitsFor names thread waits.Start = ⊥
 abbrev pub KeepsFile : Naming → File → (ℕ → ℕ) → Type 0
 KeepsFile names file value = (x : ℕ) (held : Held) → is_kept x ≡ true → slice_index_or file x None ≡ Some held → IsHeldAs names held (value x)
 
--- a place, a frame pointer and registers stand for a lone thread that waits so, whose frames are these, over these words and names
-abbrev pub StandsFor : Program → List (Held × ℕ) → List (Option ℕ) → Waiting → ℕ → ℕ → (ℕ → ℕ) → Thread → List Frame → Type 0
-StandsFor p names held wait pc fp value thread frames =
+-- a place, a frame pointer and registers stand for a thread that waits so, whose frames are these, over these words and names and what lies below it
+abbrev pub StandsOver : Program → List (Held × ℕ) → List (Option ℕ) → Context → Waiting → ℕ → ℕ → (ℕ → ℕ) → Thread → List Frame → Type 0
+StandsOver p names held end wait pc fp value thread frames =
     (ahead : ℕ) × words_ahead wait ahead × WaitsFor (named_by names) thread wait × KeepsFile (named_by names) thread.registers value
-    × FromNewest p (named_by names) (is_held held) AtEnd ahead pc fp (word_in held) value thread.activations frames
+    × FromNewest p (named_by names) (is_held held) end ahead pc fp (word_in held) value thread.activations frames
+
+-- for a lone one
+abbrev pub StandsFor : Program → List (Held × ℕ) → List (Option ℕ) → Waiting → ℕ → ℕ → (ℕ → ℕ) → Thread → List Frame → Type 0
+StandsFor p names held wait pc fp value thread frames = StandsOver p names held AtEnd wait pc fp value thread frames
 
 -- the root, which hasn't begun: it has no frame, and its place is that of `main`
 pub record IsUnbegun (p : Program) (d : Data) (chain : Chain) (thread : Thread) (frames : List Frame) : Type 0 where

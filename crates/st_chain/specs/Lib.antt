@@ -4,4 +4,8 @@ pub mod Chains
 pub mod Seen
 pub mod Logical
 pub mod Copying
+pub mod Forks
+pub mod Places
+pub mod Walking
+pub mod Taking
 pub mod Laws

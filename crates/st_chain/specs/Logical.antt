@@ -9,13 +9,15 @@ use Rattle.st_model.specs.Layout.{saveable}
 use Rattle.st_step.specs.declared.state.State.{State}
 use Rattle.st_step.specs.Frames.{value_in}
 use Rattle.st_step.specs.Moves.{register, written, at_place}
+use Rattle.st_chain.specs.declared.walk.Walk.{Walk}
 use Rattle.st_chain.specs.Chains.{saved_value}
 use Rattle.st_chain.specs.Seen.{SameKept}
 
--- the notes, the bottom thread's first, and how many there is room for
+-- the notes, the bottom thread's first, how many there is room for, and the walk of a taking that has begun
 pub record Threads : Type 0 where
   pub notes : List Note
   pub room : ℕ
+  pub «open» : Option Walk
 
 -- the top thread is taken out, or there is none
 abbrev pub IsPopped : List Note → Option Note → List Note → Type 0

@@ -13,6 +13,7 @@
 //! (`Outside`), `newest_cut` (`Cutting`), `copy_begins` and `copy_leads` (`Copying`), `stands_same` (`Restarting`).
 #![tactic(auto)]
 
+pub mod forks;
 pub mod laws;
 pub mod logical;
 pub mod walk;

@@ -1,21 +1,42 @@
 //! The threads on one worker.
-ghost use Rattle.std.specs.Prelude.{◌≡◌, ◌<◌, ◌≤◌, ◌++◌, ◌∷◌, [], length, IfOk};
-ghost use Rattle.st_model.specs.Layout.{saveable};
+ghost use Rattle.std.specs.Prelude.{◌≡◌, ◌<◌, ◌≤◌, ◌^◌, ◌++◌, ◌∷◌, ℕ, suc, List, [], length, IfOk};
+ghost use Rattle.st_model.specs.declared.code.Layout.TheVariants.{Postprocessed};
+ghost use Rattle.st_model.specs.Layout.{saveable, IsCodeOf};
+ghost use Rattle.st_model.specs.Memory.{data_of};
+ghost use Rattle.st_words.specs.Made.{Asked, StepMade};
 ghost use Rattle.st_chain.specs.Logical.{IsPopped, restarted, with_values};
+ghost use Rattle.st_chain.specs.Places.{first_walk};
+ghost use Rattle.st_base.specs.declared.chain.Note.{Note};
+ghost use Rattle.st_chain.specs.Taking.{Taking, Suspends, SuspendStep, MaySuspend, place_in};
 
-use st_base::chain::{Chain, Note};
+use crate::walk::{Place, Stage, Walk, chain_at};
+use st_base::chain::{Chain, Note, Waiting};
+use st_base::image::Image;
+use st_base::map::CODE_START;
 use st_base::reg::Reg;
 use st_model::code::SAVEABLE;
+use st_stack::stack::PhysStack;
 use st_step::Machine;
+use st_words::board::{Board, NamesView};
 use std::alloc::{AllocError, Global};
 use std::marker::Model;
 
-/// The threads on one worker, as notes from the bottom thread to the top one. There is room for a fixed count of them, and each call but `open`
-/// takes no memory. Contracts see the list of the notes, the bottom thread's first, and the room.
+/// What a step of taking a thread off its worker comes to.
+#[derive(Clone, Copy)]
+pub enum Moved {
+    /// The taking goes on.
+    More,
+    /// It is done, and this is the thread's chain.
+    Done(Chain),
+}
+
+/// The threads on one worker, as notes from the bottom thread to the top one, and the walk of a taking that has begun. There is room for a fixed
+/// count of notes, and each call but `open` takes no memory. Contracts see the list of the notes, the bottom thread's first, the room and the walk.
 #[derive(Drop)]
 pub struct Logical {
     notes: Vec<Note>,
     room: u32,
+    walk: Option<Walk>,
 }
 
 impl Model for Logical {
@@ -24,7 +45,7 @@ impl Model for Logical {
 
     ghost Value = { Threads };
 
-    ghost view = { λ l. record { notes = l.notes.items; room = l.room } };
+    ghost view = { λ l. record { notes = l.notes.items; room = l.room; «open» = l.walk } };
 
     ghost invariant = { λ l. HasRoom l.notes.items l.room (vec_capacity l.notes) };
 }
@@ -35,9 +56,14 @@ impl Logical {
         requires { 1 ≤ cells }
         ensures none { IfOk result (λ logical. logical.notes ≡ []) }
         ensures room { IfOk result (λ logical. logical.room ≡ cells) }
+        ensures closed { IfOk result (λ logical. logical.open ≡ None) }
     {
         let notes = Vec::with_capacity(alloc, cells as usize)?;
-        Ok(Logical { notes, room: cells })
+        Ok(Logical {
+            notes,
+            room: cells,
+            walk: None,
+        })
     }
 
     /// The notes, the bottom thread's first.
@@ -52,6 +78,7 @@ impl Logical {
         requires { length self.old.notes < self.old.room }
         ensures notes { self.new.notes ≡ self.old.notes ++ n ∷ [] }
         ensures room { self.new.room ≡ self.old.room }
+        ensures stays { self.new.open ≡ self.old.open }
     {
         self.notes.push_reserved(n);
     }
@@ -60,6 +87,7 @@ impl Logical {
     pub fn pop(&mut self) -> Option<Note>
         ensures popped { IsPopped self.old.notes result self.new.notes }
         ensures room { self.new.room ≡ self.old.room }
+        ensures stays { self.new.open ≡ self.old.open }
     {
         self.notes.pop()
     }
@@ -70,13 +98,106 @@ impl Logical {
         requires { self.old.notes ≡ [] }
         ensures notes { self.new.notes ≡ c.note ∷ [] }
         ensures room { self.new.room ≡ self.old.room }
+        ensures stays { self.new.open ≡ self.old.open }
         ensures machine { m.new ≡ restarted c m.old }
     {
-        m.set_reg(Reg::S0, c.fp);
-        put_saved(m, &c.saved);
-        m.set_pc(c.pc);
+        put_chain(m, &c);
         self.notes.push_reserved(c.note);
     }
+
+    /// One step of suspending the top thread, which waits so. Its frames stay where they lie. See `Taking` in `specs/Taking` for what is said of it.
+    ///
+    /// The first step begins a walk over the thread's frames, and each further one makes at most one step of the board; the steps that are left
+    /// are one fewer behind each. A step that isn't the last answers `More`. The last one answers the thread's chain: that has the thread's note
+    /// and cell and the wait, and stands for it with nothing below it; the thread's frames on this stack are exported, and the thread's note is
+    /// taken out. Where a thread lies below, the return word of the oldest frame of the one that is taken is set to the entry st_end, which is the
+    /// one word that is written, and the machine goes on with the thread below behind its fork; else the machine is as it was. No memory is taken.
+    #[tactic(none)]
+    pub fn suspend_step<B: Board, N: NamesView>(
+        &mut self,
+        m: &mut Machine,
+        s: &mut PhysStack,
+        image: &Image,
+        board: &mut B,
+        w: u32,
+        wait: Waiting,
+    ) -> Moved
+        requires may { MaySuspend (λ x. Asked B.view B.serves B.says B.forward B.moves N.after board.old w x) image.now (data_of image.now.rodata []) wait self.old.notes self.old.open m.old s.old }
+        ensures step { (t : Taking) (n : ℕ) → IsCodeOf Postprocessed t.p image.now → t.d ≡ data_of image.now.rodata [] → Suspends t wait self.old.notes self.old.open m.old s.old (suc n) → SuspendStep (λ x a b. StepMade B.view B.serves B.says B.did N.after board.old w x a b) board.old t n self.old.notes self.new.notes self.new.open m.old m.new s.new result board.new }
+        ensures room { self.new.room ≡ self.old.room }
+        ensures ends { (s.new.lo ≡ s.old.lo) × (s.new.hi ≡ s.old.hi) }
+    {
+        let Some(mut walk) = self.walk.take() else {
+            self.walk = Some(first_walk(self.notes.as_slice(), m, wait));
+            return Moved::More;
+        };
+        match walk.place(image) {
+            Place::Copy => {
+                walk.go_on::<B, N>(image, board, w);
+                self.walk = Some(walk);
+                Moved::More
+            }
+            Place::Frame => {
+                walk.begin(s, image);
+                self.walk = Some(walk);
+                Moved::More
+            }
+            Place::Fork { handle } => {
+                walk.cut::<B, N>(board, w);
+                let chain = walk.taken();
+                walk.go_down(handle, chain.cell);
+                let next = chain_at(&walk.machine, walk.machine.pc(), chain.note, Waiting::Ready);
+                put_chain(m, &next);
+                let _top = self.pop();
+                Moved::Done(chain)
+            }
+            Place::End => {
+                let chain = walk.taken();
+                let _top = self.pop();
+                Moved::Done(chain)
+            }
+        }
+    }
+}
+
+/// The walk of a suspension that begins: over the frames of the top thread, of which it has the chain.
+fn first_walk(notes: &[Note], m: &Machine, wait: Waiting) -> Walk
+    requires some { 0 < length notes.now }
+    requires place { place_in m.now < 2 ^ 32 }
+    ensures { (below : List Note) (note : Note) → notes.now ≡ below ++ note ∷ [] → result ≡ first_walk m.now (place_in m.now) note wait (length below) }
+{
+    let top = notes.len() - 1;
+    let pc = place_in(m);
+    let mut machine = m.copy();
+    machine.set_pc(pc);
+    Walk {
+        machine,
+        stage: Stage::Frame,
+        base: 0,
+        thread: top,
+        chain: Some(chain_at(m, pc, notes[top], wait)),
+    }
+}
+
+/// Where a machine stands in its thread: behind the word that called an entry of the runtime, where it is at one.
+fn place_in(m: &Machine) -> u32
+    requires { place_in m.now < 2 ^ 32 }
+    ensures { result ≡ place_in m.now }
+{
+    if m.pc() < CODE_START {
+        m.reg(Reg::Ra) as u32
+    } else {
+        m.pc()
+    }
+}
+
+/// A machine goes on with a chain.
+fn put_chain(m: &mut Machine, c: &Chain)
+    ensures { m.new ≡ restarted c.now m.old }
+{
+    m.set_reg(Reg::S0, c.fp);
+    put_saved(m, &c.saved);
+    m.set_pc(c.pc);
 }
 
 /// Puts the values into s1 to s11.
