@@ -1,3 +1,4 @@
 pub mod Functions
 pub mod World
 pub mod OfPlain
+pub mod Laws

@@ -1,5 +1,5 @@
 -- The world that a board over vectors shows.
-use Rattle.std.specs.Prelude.{◌≡◌, ℕ, List, length, Option, Some, None, slice_index_or}
+use Rattle.std.specs.Prelude.{ℕ, List, length, Option, None, slice_index_or}
 use Rattle.st_base.specs.declared.chain.Chain.{Chain}
 use Rattle.st_words.specs.declared.view.Cargo.{Cargo}
 use Rattle.st_words.specs.declared.view.View.{View}

@@ -1,7 +1,7 @@
 -- All that workers share, and what each of them holds, as functions of numbers: the words, the slots with what goes with the chains in them, and the
 -- views, whatever keeps them. Read World, Finds (what a step of a worker answers), and world_after (what it leaves, with the view after it). A board
 -- over vectors and a table of shared words both show a world; what is said of worlds names neither.
-use Rattle.std.specs.Prelude.{◌≡◌, ℕ, ◌*◌, Bool, true, false, ◌&&◌, ◌==◌, length, map, Option, Some, None, if◌then◌else◌}
+use Rattle.std.specs.Prelude.{◌≡◌, ℕ, ◌*◌, Bool, true, false, ◌&&◌, ◌==◌, map, Option, Some, None}
 use Rattle.std.specs.List.{range_with_len}
 use Rattle.std.specs.Int.{from_bool}
 use Rattle.st_base.specs.declared.chain.Chain.{Chain}
