@@ -1,0 +1,4 @@
+pub mod Shifts
+pub mod Changes
+pub mod Chains
+pub mod Exports
