@@ -1,18 +1,16 @@
 -- Chains carry words and frames between views and slots, which keeps the leases: taken and put_out. What comes with a chain that is taken: comes_own,
 -- comes_whole, comes_within, comes_inside, comes_fresh, comes_home, comes_some and comes_apart.
-use Rattle.std.proofs.Common.{◌≡◌, ◌≢◌, ◌⊎◌, inl, inr, ⊎_elim, ℕ, zero, suc, ◌+◌, ◌-◌, ◌*◌, ◌^◌, ◌<◌, ◌≤◌, List, [], ◌∷◌, length, Option, Some, None, refl, sym, ap, ◌∙◌, subst, arith}
+use Rattle.std.proofs.Common.{◌≡◌, ◌≢◌, inl, inr, ⊎_elim, ℕ, ◌*◌, ◌^◌, ◌<◌, List, Option, Some, None, refl, sym, ap, ◌∙◌, subst, arith}
 use Rattle.std.specs.List.{Contains}
-use mathlib.Core.Logic.{dite}
-use native.Mathlib.Decide.{ℕ_discrete}
 use Rattle.st_base.specs.declared.chain.Chain.{Chain}
 use Rattle.st_base.specs.declared.chain.Frame.{Frame}
 use Rattle.st_words.specs.declared.view.Slot.{Slot}
 use Rattle.st_words.specs.declared.view.Cargo.{Cargo}
 use Rattle.st_words.specs.declared.view.View.{View}
-use Rattle.st_words.specs.Steps.{Inside, return_place, place_of, home_of, kept, IsLeased}
+use Rattle.st_words.specs.Steps.{Inside, return_place, place_of, home_of, kept}
 use Rattle.st_words.proofs.Lists.{contains_none}
-use Rattle.st_leases.specs.Leasing.{Holder, InView, InSlot, Nobody, Keeping, LeasedWord, WordHolds, SlotHolds, ViewHolds, IsBare, IsSized, Leases}
-use Rattle.st_leases.proofs.Shifts.{some_none, one, view_slot, view_nobody, slot_nobody, view_other, slot_other, ends, kept_nothing, kept_case, SameCargo, slot_same, Shift, assembled}
+use Rattle.st_leases.specs.Leasing.{InView, InSlot, Keeping, LeasedWord, WordHolds, SlotHolds, ViewHolds, IsBare, Leases}
+use Rattle.st_leases.proofs.Shifts.{some_none, one, view_slot, view_nobody, slot_nobody, view_other, slot_other, ends, kept_nothing, kept_case, assembled}
 use Rattle.st_leases.proofs.Changes.{slot_case, over, over_some, over_none, TakesIn, PutsOut, AroundSlot, around_slot, leased_word, free_word, is_leased}
 
 module _ (workers each : ℕ) (word : ℕ → ℕ) (chain : Slot → Option Chain) (cargo : Slot → Cargo) (view : ℕ → View) (G : Leases workers each word chain cargo view) where
@@ -84,9 +82,13 @@ module _ (workers each : ℕ) (word : ℕ → ℕ) (chain : Slot → Option Chai
         (λ (h : kept (cargo z).words q ≡ None). record {
           inside = lw.inside;
           deep = lw.deep;
-          all = λ r j. let x = lw.all r j in (x.0, ⊎_elim
-              (λ (b : (n : ℕ) × (kept (cargo z).words r ≡ Some n)). let there = (G.slots z).all q l (sym x.1 ∙ ((G.slots z).has r b.0 b.1).1) in absurd (some_none there.0 (sym there.1 ∙ h)))
-              (λ (b : kept (cargo z).words r ≡ None). (t_none r b ∙ x.1) ∙ sym (t_none q h)) (kept_case (kept (cargo z).words r)), x.2);
+          all = λ r j. let x = lw.all r j in (
+            x.0,
+            ⊎_elim
+                (λ (b : (n : ℕ) × (kept (cargo z).words r ≡ Some n)). let there = (G.slots z).all q l (sym x.1 ∙ ((G.slots z).has r b.0 b.1).1) in absurd (some_none there.0 (sym there.1 ∙ h)))
+                (λ (b : kept (cargo z).words r ≡ None). (t_none r b ∙ x.1) ∙ sym (t_none q h)) (kept_case (kept (cargo z).words r)),
+            x.2,
+          );
           given = λ y. t_none q h ∙ lw.given y;
           gave = λ y. lw.gave (sym (t_none q h) ∙ y);
         })
@@ -186,9 +188,13 @@ module _ (workers each : ℕ) (word : ℕ → ℕ) (chain : Slot → Option Chai
         (λ (h : kept (cargo' z).words q ≡ None). record {
           inside = lw.inside;
           deep = lw.deep;
-          all = λ r j. let x = lw.all r j in (x.0, ⊎_elim
-              (λ (b : (n : ℕ) × (kept (cargo' z).words r ≡ Some n)). let there = po.whole g q (p_whole r b.0 g b.1 x.0) lw.inside in absurd (some_none there.0 (sym there.1 ∙ h)))
-              (λ (b : kept (cargo' z).words r ≡ None). (p_none r b ∙ x.1) ∙ sym (p_none q h)) (kept_case (kept (cargo' z).words r)), x.2);
+          all = λ r j. let x = lw.all r j in (
+            x.0,
+            ⊎_elim
+                (λ (b : (n : ℕ) × (kept (cargo' z).words r ≡ Some n)). let there = po.whole g q (p_whole r b.0 g b.1 x.0) lw.inside in absurd (some_none there.0 (sym there.1 ∙ h)))
+                (λ (b : kept (cargo' z).words r ≡ None). (p_none r b ∙ x.1) ∙ sym (p_none q h)) (kept_case (kept (cargo' z).words r)),
+            x.2,
+          );
           given = λ y. p_none q h ∙ lw.given y;
           gave = λ y. lw.gave (sym (p_none q h) ∙ y);
         })
@@ -207,9 +213,14 @@ module _ (workers each : ℕ) (word : ℕ → ℕ) (chain : Slot → Option Chai
       all = λ p l e. let t = p_still p e in let x = ok.all p l t.1 in (x.0, po.outside p t.0 ∙ x.1);
       exported = λ g m. ok.exported g (subst (λ (fs : List Frame). Contains fs g) po.exported m);
       exports = λ g p l e y. subst (λ (fs : List Frame). Contains fs g) (sym po.exported) (ok.exports g p l e y);
-      away = λ g m. let b = po.away g m in let h = ok.away g b.0 in (h.0, h.1, ⊎_elim
-          (λ (y : (m : ℕ) × (kept (cargo' z).words (return_place g) ≡ Some m)). absurd (b.1 (p_whole (return_place g) y.0 g y.1 h.1)))
-          (λ (y : kept (cargo' z).words (return_place g) ≡ None). p_none (return_place g) y ∙ h.2) (kept_case (kept (cargo' z).words (return_place g))), h.3);
+      away = λ g m. let b = po.away g m in let h = ok.away g b.0 in (
+        h.0,
+        h.1,
+        ⊎_elim
+            (λ (y : (m : ℕ) × (kept (cargo' z).words (return_place g) ≡ Some m)). absurd (b.1 (p_whole (return_place g) y.0 g y.1 h.1)))
+            (λ (y : kept (cargo' z).words (return_place g) ≡ None). p_none (return_place g) y ∙ h.2) (kept_case (kept (cargo' z).words (return_place g))),
+        h.3,
+      );
       aways = λ g p l e y far. let t = p_still p y in ⊎_elim (λ (m : Contains (view' w).away g). m)
           (λ (m : Contains (cargo' z).frames g). let x = po.whole g p m (lw_at p g l e).inside in absurd (some_none x.0 (sym x.1 ∙ t.0)))
           (po.stay g (ok.aways g p l e t.1 far));

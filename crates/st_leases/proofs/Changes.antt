@@ -2,7 +2,7 @@
 -- (a look finds 0), taken (what a chain in a slot held comes into a view), put_out (leased frames go into an empty slot), exported (a frame of the
 -- worker's own stack is leased). What the change does to the worker's view is a record of what it has at each place: Stores, GivesUp, TakesBack,
 -- TakesIn, PutsOut.
-use Rattle.std.proofs.Common.{◌≡◌, ◌≢◌, ◌⊎◌, inl, inr, ⊎_elim, ℕ, zero, suc, ◌+◌, ◌-◌, ◌*◌, ◌^◌, ◌<◌, ◌≤◌, Bool, true, false, cond, List, [], ◌∷◌, length, Option, Some, None, refl, sym, ap, ◌∙◌, subst, arith, ◌==◌, eq-eqb, ne_eqb}
+use Rattle.std.proofs.Common.{◌≡◌, ◌≢◌, ◌⊎◌, inl, inr, ⊎_elim, ℕ, ◌*◌, ◌^◌, ◌<◌, Bool, cond, List, Option, Some, None, refl, sym, ap, ◌∙◌, subst, arith, eq-eqb, ne_eqb}
 use Rattle.std.specs.List.{Contains}
 use mathlib.Core.Logic.{dite}
 use native.Mathlib.Decide.{ℕ_discrete}
@@ -12,12 +12,12 @@ use Rattle.st_words.specs.declared.view.Slot.{Slot}
 use Rattle.st_words.specs.declared.view.Slot.TheVariants.{Cell, Mail}
 use Rattle.st_words.specs.declared.view.Cargo.{Cargo}
 use Rattle.st_words.specs.declared.view.View.{View}
-use Rattle.st_words.specs.Steps.{Inside, return_place, place_of, home_of, kept, IsLeased, Holds}
+use Rattle.st_words.specs.Steps.{Inside, return_place, home_of, kept, IsLeased, Holds}
 use Rattle.st_words.specs.Views.{is_inside}
-use Rattle.st_words.proofs.Lists.{inside_case, inside_true, inside_false, contains_none, contains_here, contains_later, contains_case}
+use Rattle.st_words.proofs.Lists.{inside_case, inside_true, inside_false}
 use Rattle.st_world.specs.Functions.{put}
-use Rattle.st_leases.specs.Leasing.{Holder, InView, InSlot, Nobody, Keeping, LeasedWord, WordHolds, SlotHolds, ViewHolds, IsBare, IsSized, Leases}
-use Rattle.st_leases.proofs.Shifts.{some_none, one, view_slot, view_nobody, slot_nobody, view_other, slot_other, ends, kept_nothing, kept_case, SameView, SameCargo, view_same, slot_same, Shift, After, assembled}
+use Rattle.st_leases.specs.Leasing.{Holder, InView, Nobody, Keeping, LeasedWord, WordHolds, ViewHolds, IsBare, IsSized, Leases}
+use Rattle.st_leases.proofs.Shifts.{some_none, one, view_slot, view_nobody, slot_nobody, view_other, ends, SameView, SameCargo, view_same, assembled}
 
 pub put_here : {X : Type 0} (f : ℕ → X) (i : ℕ) (x : X) → put f i x i ≡ x
 put_here {X} f i x = ap (λ (b : Bool). cond b x (f i)) (eq-eqb i i refl)

@@ -1,5 +1,5 @@
 -- A frame of the worker's own stack is exported, which keeps the leases: exported.
-use Rattle.std.proofs.Common.{◌≡◌, ◌≢◌, ◌⊎◌, inl, inr, ⊎_elim, ℕ, zero, suc, ◌+◌, ◌-◌, ◌*◌, ◌^◌, ◌<◌, ◌≤◌, List, [], ◌∷◌, length, Option, Some, None, refl, sym, ap, ◌∙◌, subst, arith}
+use Rattle.std.proofs.Common.{◌≡◌, inl, inr, ⊎_elim, ℕ, ◌*◌, ◌<◌, List, ◌∷◌, Option, Some, None, refl, sym, ap, ◌∙◌, subst, arith}
 use Rattle.std.specs.List.{Contains}
 use Rattle.st_base.specs.declared.chain.Chain.{Chain}
 use Rattle.st_base.specs.declared.chain.Frame.{Frame}
@@ -8,9 +8,9 @@ use Rattle.st_words.specs.declared.view.Cargo.{Cargo}
 use Rattle.st_words.specs.declared.view.View.{View}
 use Rattle.st_words.specs.Steps.{Inside, return_place, place_of, home_of, kept, IsLeased, Holds}
 use Rattle.st_words.proofs.Lists.{inside_case, contains_here, contains_later, contains_case}
-use Rattle.st_leases.specs.Leasing.{Holder, InView, InSlot, Nobody, Keeping, LeasedWord, WordHolds, SlotHolds, ViewHolds, IsBare, IsSized, Leases}
-use Rattle.st_leases.proofs.Shifts.{some_none, one, view_slot, view_nobody, slot_nobody, view_other, ends, Shift, assembled}
-use Rattle.st_leases.proofs.Changes.{within, within_in, within_out, Around, around_bare, leased_word, free_word, is_leased, knows}
+use Rattle.st_leases.specs.Leasing.{InView, Keeping, WordHolds, ViewHolds, Leases}
+use Rattle.st_leases.proofs.Shifts.{one, view_slot, view_nobody, view_other, assembled}
+use Rattle.st_leases.proofs.Changes.{within, within_in, within_out, Around, around_bare, leased_word, free_word, knows}
 
 -- the frame lies on the worker's stack; it holds all words of it, the return word isn't 0, and no other leased frame of which it knows overlaps it
 pub record Exports (home : ℕ → ℕ) (w : ℕ) (word : ℕ → ℕ) (f : Frame) (v v' : View) : Type 0 where

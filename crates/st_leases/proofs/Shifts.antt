@@ -1,6 +1,6 @@
 -- Words go from one holder to another. Reach for view_calm and slot_calm (who isn't one of the two keeps what it has), view_same and slot_same (the
 -- same words and frames), and assembled (all clauses together, after a step of one worker).
-use Rattle.std.proofs.Common.{◌≡◌, ◌≢◌, ◌⊎◌, inl, inr, ⊎_elim, ℕ, zero, suc, ◌*◌, ◌^◌, ◌<◌, List, [], length, Option, Some, None, refl, sym, ap, ◌∙◌, subst, arith}
+use Rattle.std.proofs.Common.{◌≡◌, ◌≢◌, ◌⊎◌, inl, inr, ⊎_elim, ℕ, zero, suc, ◌*◌, ◌^◌, ◌<◌, List, [], Option, Some, None, refl, sym, ap, ◌∙◌, subst, arith}
 use Rattle.std.specs.List.{Contains}
 use mathlib.Core.Logic.{dite}
 use native.Mathlib.Decide.{ℕ_discrete}
@@ -9,8 +9,8 @@ use Rattle.st_base.specs.declared.chain.Frame.{Frame}
 use Rattle.st_words.specs.declared.view.Slot.{Slot}
 use Rattle.st_words.specs.declared.view.Cargo.{Cargo}
 use Rattle.st_words.specs.declared.view.View.{View}
-use Rattle.st_words.specs.Steps.{Inside, return_place, home_of, kept, IsLeased}
-use Rattle.st_leases.specs.Leasing.{Holder, InView, InSlot, Nobody, Keeping, LeasedWord, WordHolds, SlotHolds, ViewHolds, IsBare, IsSized, Leases}
+use Rattle.st_words.specs.Steps.{Inside, return_place, home_of, kept}
+use Rattle.st_leases.specs.Leasing.{Holder, InView, InSlot, Nobody, Keeping, WordHolds, SlotHolds, ViewHolds, IsBare, IsSized, Leases}
 
 pub some_none : {A : Type 0} (x : A) → Some x ≡ None → ⊥
 some_none x e = let no : ⊥ = cc in no
@@ -47,10 +47,8 @@ kept_case (Some n) = inl (n, refl)
 
 -- ---- the same words and frames
 
-pub record SameView (v v' : View) : Type 0 where
-  pub held : v'.held ≡ v.held
-  pub exported : v'.exported ≡ v.exported
-  pub away : v'.away ≡ v.away
+abbrev pub SameView : View → View → Type 0
+SameView v v' = (v'.held ≡ v.held) × (v'.exported ≡ v.exported) × (v'.away ≡ v.away)
 
 abbrev pub SameCargo : Cargo → Cargo → Type 0
 SameCargo c d = (d.words ≡ c.words) × (d.frames ≡ c.frames)
@@ -58,12 +56,12 @@ SameCargo c d = (d.words ≡ c.words) × (d.frames ≡ c.frames)
 module _ (size each : ℕ) (word : ℕ → ℕ) (k : Keeping) where
   pub view_same : (w : ℕ) (v v' : View) → SameView v v' → ViewHolds size each word k w v → ViewHolds size each word k w v'
   view_same w v v' s h = record {
-    held = λ p n e. h.held p n (sym (ap (λ (x : List (Option ℕ)). kept x p) s.held) ∙ e);
-    all = λ p l e. let x = h.all p l e in (x.0, ap (λ (x : List (Option ℕ)). kept x p) s.held ∙ x.1);
-    exported = λ f m. h.exported f (subst (λ (x : List Frame). Contains x f) s.exported m);
-    exports = λ f p l e at. subst (λ (x : List Frame). Contains x f) (sym s.exported) (h.exports f p l e at);
-    away = λ f m. h.away f (subst (λ (x : List Frame). Contains x f) s.away m);
-    aways = λ f p l e at far. subst (λ (x : List Frame). Contains x f) (sym s.away) (h.aways f p l e at far);
+    held = λ p n e. h.held p n (sym (ap (λ (x : List (Option ℕ)). kept x p) s.0) ∙ e);
+    all = λ p l e. let x = h.all p l e in (x.0, ap (λ (x : List (Option ℕ)). kept x p) s.0 ∙ x.1);
+    exported = λ f m. h.exported f (subst (λ (x : List Frame). Contains x f) s.1 m);
+    exports = λ f p l e at. subst (λ (x : List Frame). Contains x f) (sym s.1) (h.exports f p l e at);
+    away = λ f m. h.away f (subst (λ (x : List Frame). Contains x f) s.2 m);
+    aways = λ f p l e at far. subst (λ (x : List Frame). Contains x f) (sym s.2) (h.aways f p l e at far);
   }
 
   pub slot_same : (z : Slot) (c d : Cargo) → SameCargo c d → SlotHolds size each word k z c → SlotHolds size each word k z d

@@ -1,7 +1,7 @@
 -- Who holds each word of the stacks: a worker, the chain in a slot, or nobody, where the word is of a leased frame that was given up; and in which
 -- leased frame it lies. Read Leasing, which is of a world, and Leases, which is of the functions that it reads. Each clause is of one word, one
 -- view or one slot; that no word is held twice and that leased frames are apart follows, since a word has one holder and one frame.
-use Rattle.std.specs.Prelude.{◌≡◌, ◌≢◌, ℕ, ◌*◌, ◌^◌, ◌<◌, List, [], length, Option, Some, None}
+use Rattle.std.specs.Prelude.{◌≡◌, ◌≢◌, ℕ, ◌*◌, ◌^◌, ◌<◌, [], length, Option, Some, None}
 use Rattle.std.specs.List.{Contains}
 use Rattle.st_base.specs.declared.chain.Chain.{Chain}
 use Rattle.st_base.specs.declared.chain.Frame.{Frame}
