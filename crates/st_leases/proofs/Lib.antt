@@ -5,3 +5,4 @@ pub mod Exports
 pub mod ViewsAfter
 pub mod Steps
 pub mod Follows
+pub mod Firsts

@@ -1,5 +1,5 @@
 //! The leases are kept by all that workers do, and what follows from them: laws without code.
-ghost use Rattle.st_leases.specs.Laws.{Kept, MoveLaws, HeldLaws, ToldLaws};
+ghost use Rattle.st_leases.specs.Laws.{Kept, MoveLaws, HeldLaws, ToldLaws, First};
 
 /// Each of the kinds of step of a worker keeps the leases, whatever is answered.
 pub fn steps_keep()
@@ -19,4 +19,9 @@ pub fn held_laws()
 /// What loads, looks and takes promise, and what is always so of a view.
 pub fn told_laws()
     ensures { ToldLaws }
+{}
+
+/// A board that is opened has them.
+pub fn first_leases()
+    ensures { First }
 {}
