@@ -1,0 +1,5 @@
+pub mod Functions
+pub mod Mails
+pub mod ViewsAfter
+pub mod Steps
+pub mod Follows

@@ -1,0 +1,22 @@
+-- The laws of requests and mail, over worlds. Read Kept (each kind of step of a worker keeps them, whatever is answered) and SlotLaws (who may take from a mail
+-- slot finds it filled, and who may put into one finds it empty).
+use Rattle.std.specs.Prelude.{◌≡◌, ℕ, ◌<◌, Option, Some, None}
+use Rattle.st_base.specs.declared.chain.Chain.{Chain}
+use Rattle.st_words.specs.declared.view.Slot.TheVariants.{Mail}
+use Rattle.st_words.specs.declared.view.View.{View}
+use Rattle.st_words.specs.Steps.{Step, Answer, Number, RequestLoad, MailLoad, Can, MayTake, MayPut}
+use Rattle.st_words.specs.Promises.{Promises}
+use Rattle.st_words.specs.Views.{Does}
+use Rattle.st_world.specs.World.{World, Finds, world_after}
+use Rattle.st_requests.specs.Mailing.{Requests}
+
+abbrev pub Kept : Type 0
+Kept = (x : World) (w : ℕ) (s : Step) (a : Answer) (v : View) → Requests x → w < x.workers → Can (x.view w) s → Finds x w s a → Does (x.view w) s a v → Requests (world_after x w s a v)
+
+pub record SlotLaws : Type 0 where
+  pub filled : (x : World) (w at : ℕ) → Requests x → w < x.workers → MayTake (x.view w) (Mail at) → (chain : Chain) × (x.post at ≡ Some chain)
+  pub empty : (x : World) (w at : ℕ) (chain : Chain) → Requests x → w < x.workers → MayPut (x.view w) (Mail at) chain → x.post at ≡ None
+
+pub record ToldLaws : Type 0 where
+  pub letters : (x : World) (w n : ℕ) → Requests x → Finds x w MailLoad (Number n) → Promises (x.view w) MailLoad (Number n)
+  pub requests : (x : World) (w at n : ℕ) → Requests x → w < x.workers → Finds x w (RequestLoad at) (Number n) → Promises (x.view w) (RequestLoad at) (Number n)
