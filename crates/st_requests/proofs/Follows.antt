@@ -1,16 +1,14 @@
--- What follows from the requests: slot_laws and told_laws.
-use Rattle.std.proofs.Common.{◌≡◌, ◌≢◌, ◌⊎◌, inl, inr, ℕ, suc, ◌≤◌, ◌<◌, Option, Some, None, refl, sym, ap, ◌∙◌, subst, arith}
+-- What follows from the requests: slot_laws, told_laws and move_laws.
+use Rattle.std.proofs.Common.{◌≡◌, ◌≢◌, ◌⊎◌, inl, inr, ℕ, ◌≤◌, ◌<◌, Option, Some, None, refl, sym, ap, ◌∙◌, subst, arith}
 use Rattle.st_words.specs.declared.view.Answering.{Answering}
-use Rattle.st_words.specs.declared.view.View.{View}
 use Rattle.st_words.specs.Encodings.{asking, answering_word}
-use Rattle.st_words.specs.Views.{Progress}
 use Rattle.st_words.specs.Laws.{progress_of}
 use Rattle.st_words.specs.Promises.{RequestIs}
 use Rattle.st_world.specs.World.{World}
 use Rattle.st_requests.specs.Mailing.{PhaseOk, AnswerOk, Requests, asks, answers, letters, gifts}
-use Rattle.st_requests.specs.Laws.{SlotLaws, ToldLaws}
+use Rattle.st_requests.specs.Laws.{SlotLaws, ToldLaws, MoveLaws}
 use Rattle.st_requests.proofs.Mails as mails
-use Rattle.st_requests.proofs.Steps.{post_filled, post_empty}
+use Rattle.st_requests.proofs.Steps.{post_filled, post_empty, quiet_world, the_same}
 
 pub slot_laws : SlotLaws
 slot_laws = record {
@@ -49,4 +47,14 @@ pub told_laws : ToldLaws
 told_laws = record {
   letters = λ x w n G f. let h = mails.mail_promised x.workers G.few x.request x.mail x.post (asks x.view) (answers x.view) (letters x.view) (gifts x.view) G.phase G.mailing w in (subst (λ (k : ℕ). k ≤ 3) (sym f) h.0, λ e. f ∙ h.1 e);
   requests = λ x w at n G less f. request_told x G w at n less f;
+}
+
+pub move_laws : MoveLaws
+move_laws = record {
+  progresses = λ x w progress G. quiet_world x x w _ (the_same x) G (refl, refl) (refl, refl, refl, refl);
+  suspends = λ x w t rest wait G. quiet_world x x w _ (the_same x) G (refl, refl) (refl, refl, refl, refl);
+  gives = λ x w t above G. quiet_world x x w _ (the_same x) G (refl, refl) (refl, refl, refl, refl);
+  restarts = λ x w carried G. quiet_world x x w _ (the_same x) G (refl, refl) (refl, refl, refl, refl);
+  begins = λ x w child parent rest G. quiet_world x x w _ (the_same x) G (refl, refl) (refl, refl, refl, refl);
+  exports = λ x w f G. quiet_world x x w _ (the_same x) G (refl, refl) (refl, refl, refl, refl);
 }

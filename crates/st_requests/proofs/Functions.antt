@@ -1,6 +1,6 @@
 -- put at one place: put_here and put_other, put_keeps and put_was (a value at another place), put_all (what holds at each place). A part of the views of which
 -- one is changed: part_eq and part_same.
-use Rattle.std.proofs.Common.{◌≡◌, ◌≢◌, ◌⊎◌, inl, inr, ⊎_elim, ℕ, Bool, cond, refl, sym, ◌∙◌, ap, subst, ◌==◌, eq-eqb, ne_eqb}
+use Rattle.std.proofs.Common.{◌≡◌, ◌≢◌, ℕ, Bool, cond, refl, sym, ◌∙◌, ap, subst, eq-eqb, ne_eqb}
 use mathlib.Core.Logic.{dite}
 use native.Mathlib.Decide.{ℕ_discrete}
 use Rattle.st_words.specs.declared.view.View.{View}

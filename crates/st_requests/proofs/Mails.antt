@@ -1,5 +1,5 @@
 -- Each step on a request word or a mail word, and on a mail slot, keeps Mailing.
-use Rattle.std.proofs.Common.{◌≡◌, ◌≢◌, ◌⊎◌, inl, inr, ⊎_elim, ℕ, zero, suc, ◌+◌, ◌≤◌, ◌<◌, Bool, true, false, cond, Option, Some, None, refl, sym, ap, ◌∙◌, subst, arith}
+use Rattle.std.proofs.Common.{◌≡◌, ◌≢◌, inl, inr, ℕ, suc, ◌≤◌, ◌<◌, Bool, true, false, Option, Some, None, refl, sym, ap, ◌∙◌, subst, arith}
 use mathlib.Core.Logic.{dite}
 use native.Mathlib.Decide.{ℕ_discrete}
 use Rattle.st_base.specs.declared.chain.Chain.{Chain}
@@ -83,9 +83,13 @@ module _ (workers : ℕ) (few_workers : workers ≤ 31) (request mail : ℕ → 
           record {
             each = λ a. put_all (λ (a : ℕ) (p : Phase). PhaseOk workers (put request v (suc w)) mail post (put asked w (Some v)) answering letter gift a p) phase w (Asks v) a
                 (λ (e : a ≡ w). subst (λ (a : ℕ). PhaseOk workers (put request v (suc w)) mail post (put asked w (Some v)) answering letter gift a (Asks v)) (sym e)
-                    (put_here asked w (Some v), f, ok.2, subst (λ (k : ℕ). k ≤ 1) (sym ok.2) small, ok.4, put_here request v (suc w), few, apart))
+                (put_here asked w (Some v), f, ok.2, subst (λ (k : ℕ). k ≤ 1) (sym ok.2) small, ok.4, put_here request v (suc w), few, apart))
                 (λ (d : a ≢ w). phase_same workers request mail (put request v (suc w)) mail post post asked (put asked w (Some v)) answering answering letter letter gift gift a (phase a) (record {
-                  asked_is = put_other asked w (Some v) a d; gift_is = refl; mail_is = refl; letter_is = refl; post_is = refl;
+                  asked_is = put_other asked w (Some v) a d;
+                  gift_is = refl;
+                  mail_is = refl;
+                  letter_is = refl;
+                  post_is = refl;
                   request_is = λ u r. put_keeps request v (suc w) u (suc a) r (λ q. omega (arith, q, z));
                   answering_is = λ u p r. r;
                 }) (M.each a));
@@ -96,7 +100,7 @@ module _ (workers : ℕ) (few_workers : workers ≤ 31) (request mail : ℕ → 
           asks_answers u None h still = dite (ℕ_discrete u v)
               (λ (e : u ≡ v). inr (w, ap (put request v (suc w)) e ∙ put_here request v (suc w), put_here phase w (Asks v) ∙ ap Asks (sym e)))
               (λ (d : u ≢ v). answer_same workers request mail (put request v (suc w)) mail post post asked (put asked w (Some v)) answering answering letter letter gift gift phase (put phase w (Asks v)) u None (put_other request v (suc w) u d)
-                  (λ a q. put_keeps phase w (Asks v) a (Asks u) q (λ t. let no : ⊥ = cc in no)) (λ a p q. put_keeps phase w (Asks v) a (Answers u p) q (λ t. let no : ⊥ = cc in no)) h)
+              (λ a q. put_keeps phase w (Asks v) a (Asks u) q (λ t. let no : ⊥ = cc in no)) (λ a p q. put_keeps phase w (Asks v) a (Answers u p) q (λ t. let no : ⊥ = cc in no)) h)
           asks_answers u (Some x) h still = (put_keeps request v (suc w) u 32 h.0 (λ q. omega (arith, q, z)), λ t. put_keeps phase w (Asks v) x.asker (Answers u x.put) (h.1 t) (λ s. let no : ⊥ = cc in no), h.2, h.3)
 
       -- w begins to answer a
@@ -111,15 +115,19 @@ module _ (workers : ℕ) (few_workers : workers ≤ 31) (request mail : ℕ → 
             each = λ b. put_all (λ (b : ℕ) (p : Phase). PhaseOk workers (put request w 32) mail post asked (put answering w (Some x)) letter gift b p) phase a (Answers w false) b
                 (λ (e : b ≡ a). subst (λ (b : ℕ). PhaseOk workers (put request w 32) mail post asked (put answering w (Some x)) letter gift b (Answers w false)) (sym e) (ok.0, ok.1, ok.2, ok.3, ok.4, put_here answering w (Some x)))
                 (λ (d : b ≢ a). phase_same workers request mail (put request w 32) mail post post asked asked answering (put answering w (Some x)) letter letter gift gift b (phase b) (record {
-                  asked_is = refl; gift_is = refl; mail_is = refl; letter_is = refl; post_is = refl;
+                  asked_is = refl;
+                  gift_is = refl;
+                  mail_is = refl;
+                  letter_is = refl;
+                  post_is = refl;
                   request_is = λ u q. put_keeps request w 32 u (suc b) q (λ t. d (let z : b ≡ a = omega (arith, t, found) in z));
                   answering_is = λ u p q. put_keeps answering w (Some x) u (Some (record { asker = b; put = p; told = false })) q (λ t. let no : ⊥ = cc in no);
                 }) (M.each b));
             answers = λ u. put_all (λ (u : ℕ) (o : Option Answering). AnswerOk workers (put request w 32) mail post asked (put answering w (Some x)) letter gift (put phase a (Answers w false)) u o) answering w (Some x) u
                 (λ (e : u ≡ w). subst (λ (u : ℕ). AnswerOk workers (put request w 32) mail post asked (put answering w (Some x)) letter gift (put phase a (Answers w false)) u (Some x)) (sym e) (put_here request w 32, λ t. put_here phase a (Answers w false), ok.6, ok.7))
                 (λ (d : u ≢ w). answer_same workers request mail (put request w 32) mail post post asked asked answering (put answering w (Some x)) letter letter gift gift phase (put phase a (Answers w false)) u (answering u) (put_other request w 32 u d)
-                    (λ b q. put_keeps phase a (Answers w false) b (Asks u) q (λ t. let z : w ≡ u = cc in d (sym z)))
-                    (λ b p q. put_keeps phase a (Answers w false) b (Answers u p) q (λ t. let no : ⊥ = cc in no)) (M.answers u));
+                (λ b q. put_keeps phase a (Answers w false) b (Asks u) q (λ t. let z : w ≡ u = cc in d (sym z)))
+                (λ b p q. put_keeps phase a (Answers w false) b (Answers u p) q (λ t. let no : ⊥ = cc in no)) (M.answers u));
           }
 
       -- w ends the answer that it has told
@@ -136,10 +144,15 @@ module _ (workers : ℕ) (few_workers : workers ≤ 31) (request mail : ℕ → 
         where
           same : (b : ℕ) → (b < workers) → request w ≡ 32 → Same workers request mail (put request w 0) mail post post asked asked answering (put answering w None) letter letter gift gift b
           same b l full = record {
-            asked_is = refl; gift_is = refl; mail_is = refl; letter_is = refl; post_is = refl;
+            asked_is = refl;
+            gift_is = refl;
+            mail_is = refl;
+            letter_is = refl;
+            post_is = refl;
             request_is = λ u q. put_keeps request w 0 u (suc b) q (λ t. omega (arith, t, full, l, few_workers));
             answering_is = λ u p q. put_keeps answering w None u (Some (record { asker = b; put = p; told = false })) q (λ t. let no : ⊥ = cc in no);
           }
+
           clear_phase : (b : ℕ) (p : Phase) → request w ≡ 32 → PhaseOk workers request mail post asked answering letter gift b p → PhaseOk workers (put request w 0) mail post asked (put answering w None) letter gift b p
           clear_phase b (Asks v) full h = let s = same b h.6 full in (h.0, h.1, h.2, h.3, h.4, s.request_is v h.5, h.6, h.7)
           clear_phase b (Answers v p) full h = (h.0, h.1, h.2, h.3, h.4, put_keeps answering w None v (Some (record { asker = b; put = p; told = false })) h.5 (λ t. let no : ⊥ = cc in no))
@@ -158,16 +171,20 @@ module _ (workers : ℕ) (few_workers : workers ≤ 31) (request mail : ℕ → 
             each = λ b. put_all (λ (b : ℕ) (p : Phase). PhaseOk workers (put request v 0) mail post (put asked w None) answering letter gift b p) phase w Still b
                 (λ (e : b ≡ w). subst (λ (b : ℕ). PhaseOk workers (put request v 0) mail post (put asked w None) answering letter gift b Still) (sym e) (put_here asked w None, ok.1, ok.2, omega (arith, small), ok.4))
                 (λ (d : b ≢ w). phase_same workers request mail (put request v 0) mail post post asked (put asked w None) answering answering letter letter gift gift b (phase b) (record {
-                  asked_is = put_other asked w None b d; gift_is = refl; mail_is = refl; letter_is = refl; post_is = refl;
+                  asked_is = put_other asked w None b d;
+                  gift_is = refl;
+                  mail_is = refl;
+                  letter_is = refl;
+                  post_is = refl;
                   request_is = λ u q. put_keeps request v 0 u (suc b) q (λ t. d (let z : b ≡ w = omega (arith, t, found) in z));
                   answering_is = λ u p q. q;
                 }) (M.each b));
             answers = λ u. dite (ℕ_discrete u v)
                 (λ (e : u ≡ v). subst (λ (u : ℕ). AnswerOk workers (put request v 0) mail post (put asked w None) answering letter gift (put phase w Still) u (answering u)) (sym e)
-                    (subst (AnswerOk workers (put request v 0) mail post (put asked w None) answering letter gift (put phase w Still) v) (sym r.0) (inl (put_here request v 0))))
+                (subst (AnswerOk workers (put request v 0) mail post (put asked w None) answering letter gift (put phase w Still) v) (sym r.0) (inl (put_here request v 0))))
                 (λ (d : u ≢ v). answer_same workers request mail (put request v 0) mail post post asked (put asked w None) answering answering letter letter gift gift phase (put phase w Still) u (answering u) (put_other request v 0 u d)
-                    (λ b q. put_keeps phase w Still b (Asks u) q (λ t. let z : v ≡ u = cc in d (sym z)))
-                    (λ b p q. put_keeps phase w Still b (Answers u p) q (λ t. let no : ⊥ = cc in no)) (M.answers u));
+                (λ b q. put_keeps phase w Still b (Asks u) q (λ t. let z : v ≡ u = cc in d (sym z)))
+                (λ b p q. put_keeps phase w Still b (Answers u p) q (λ t. let no : ⊥ = cc in no)) (M.answers u));
           }
 
       -- w tells a its answer
@@ -181,15 +198,19 @@ module _ (workers : ℕ) (few_workers : workers ≤ 31) (request mail : ℕ → 
             each = λ b. put_all (λ (b : ℕ) (q : Phase). PhaseOk workers request (put mail a (told_word p)) post asked (put answering w (Some x)) letter gift b q) phase a (Told w p) b
                 (λ (e : b ≡ a). subst (λ (b : ℕ). PhaseOk workers request (put mail a (told_word p)) post asked (put answering w (Some x)) letter gift b (Told w p)) (sym e) (ok.0, ok.1, put_here mail a (told_word p), ok.4))
                 (λ (d : b ≢ a). phase_same workers request mail request (put mail a (told_word p)) post post asked asked answering (put answering w (Some x)) letter letter gift gift b (phase b) (record {
-                  asked_is = refl; gift_is = refl; mail_is = put_other mail a (told_word p) b d; letter_is = refl; post_is = refl;
+                  asked_is = refl;
+                  gift_is = refl;
+                  mail_is = put_other mail a (told_word p) b d;
+                  letter_is = refl;
+                  post_is = refl;
                   request_is = λ u q. q;
                   answering_is = λ u r q. put_keeps answering w (Some x) u (Some (record { asker = b; put = r; told = false })) q (λ t. let z : a ≡ b = ap (asker_in 0) (sym at ∙ t) in d (sym z));
                 }) (M.each b));
             answers = λ u. put_all (λ (u : ℕ) (o : Option Answering). AnswerOk workers request (put mail a (told_word p)) post asked (put answering w (Some x)) letter gift (put phase a (Told w p)) u o) answering w (Some x) u
                 (λ (e : u ≡ w). subst (λ (u : ℕ). AnswerOk workers request (put mail a (told_word p)) post asked (put answering w (Some x)) letter gift (put phase a (Told w p)) u (Some x)) (sym e) (h.0, λ t. let no : ⊥ = cc in absurd no, h.2, h.3))
                 (λ (d : u ≢ w). answer_same workers request mail request (put mail a (told_word p)) post post asked asked answering (put answering w (Some x)) letter letter gift gift phase (put phase a (Told w p)) u (answering u) refl
-                    (λ b q. put_keeps phase a (Told w p) b (Asks u) q (λ t. let no : ⊥ = cc in no))
-                    (λ b r q. put_keeps phase a (Told w p) b (Answers u r) q (λ t. let z : w ≡ u = cc in d (sym z))) (M.answers u));
+                (λ b q. put_keeps phase a (Told w p) b (Asks u) q (λ t. let no : ⊥ = cc in no))
+                (λ b r q. put_keeps phase a (Told w p) b (Answers u r) q (λ t. let z : w ≡ u = cc in d (sym z))) (M.answers u));
           }
 
       -- w puts a chain into the mail of a
@@ -203,15 +224,19 @@ module _ (workers : ℕ) (few_workers : workers ≤ 31) (request mail : ℕ → 
             each = λ b. put_all (λ (b : ℕ) (q : Phase). PhaseOk workers request mail (put post a (Some chain)) asked (put answering w (Some x)) letter gift b q) phase a (Answers w true) b
                 (λ (e : b ≡ a). subst (λ (b : ℕ). PhaseOk workers request mail (put post a (Some chain)) asked (put answering w (Some x)) letter gift b (Answers w true)) (sym e) (ok.0, ok.1, ok.2, ok.3, (chain, put_here post a (Some chain)), put_here answering w (Some x)))
                 (λ (d : b ≢ a). phase_same workers request mail request mail post (put post a (Some chain)) asked asked answering (put answering w (Some x)) letter letter gift gift b (phase b) (record {
-                  asked_is = refl; gift_is = refl; mail_is = refl; letter_is = refl; post_is = put_other post a (Some chain) b d;
+                  asked_is = refl;
+                  gift_is = refl;
+                  mail_is = refl;
+                  letter_is = refl;
+                  post_is = put_other post a (Some chain) b d;
                   request_is = λ u q. q;
                   answering_is = λ u r q. put_keeps answering w (Some x) u (Some (record { asker = b; put = r; told = false })) q (λ t. let z : a ≡ b = ap (asker_in 0) (sym at ∙ t) in d (sym z));
                 }) (M.each b));
             answers = λ u. put_all (λ (u : ℕ) (o : Option Answering). AnswerOk workers request mail (put post a (Some chain)) asked (put answering w (Some x)) letter gift (put phase a (Answers w true)) u o) answering w (Some x) u
                 (λ (e : u ≡ w). subst (λ (u : ℕ). AnswerOk workers request mail (put post a (Some chain)) asked (put answering w (Some x)) letter gift (put phase a (Answers w true)) u (Some x)) (sym e) (h.0, λ t. put_here phase a (Answers w true), h.2, h.3))
                 (λ (d : u ≢ w). answer_same workers request mail request mail post (put post a (Some chain)) asked asked answering (put answering w (Some x)) letter letter gift gift phase (put phase a (Answers w true)) u (answering u) refl
-                    (λ b q. put_keeps phase a (Answers w true) b (Asks u) q (λ t. let no : ⊥ = cc in no))
-                    (λ b r q. put_keeps phase a (Answers w true) b (Answers u r) q (λ t. let z : w ≡ u = cc in d (sym z))) (M.answers u));
+                (λ b q. put_keeps phase a (Answers w true) b (Asks u) q (λ t. let no : ⊥ = cc in no))
+                (λ b r q. put_keeps phase a (Answers w true) b (Answers u r) q (λ t. let z : w ≡ u = cc in d (sym z))) (M.answers u));
           }
 
       -- w alone changes what it knows: its phase p becomes q, and neither is a request that stands unanswered
@@ -231,9 +256,9 @@ module _ (workers : ℕ) (few_workers : workers ≤ 31) (request mail : ℕ → 
           let t = is_told w v (phase w) (M.each w) at (omega (arith, two)) in
           let ok = subst (PhaseOk workers request mail post asked answering letter gift w) t.1 (M.each w) in
           alone w Given mail post (put asked w None) (put letter w 2) (put gift w true)
-            (λ a d. record { asked_is = put_other asked w None a d; gift_is = put_other gift w true a d; mail_is = refl; letter_is = put_other letter w 2 a d; post_is = refl; request_is = λ u q. q; answering_is = λ u p q. q })
-            (λ u q. let s = t.1 in let no : ⊥ = cc in no) (λ u p q. let s = t.1 in let no : ⊥ = cc in no)
-            (put_here asked w None, put_here gift w true, two, put_here letter w 2, filled t.0 (sym ok.2 ∙ two) ok.3)
+          (λ a d. record { asked_is = put_other asked w None a d; gift_is = put_other gift w true a d; mail_is = refl; letter_is = put_other letter w 2 a d; post_is = refl; request_is = λ u q. q; answering_is = λ u p q. q })
+          (λ u q. let s = t.1 in let no : ⊥ = cc in no) (λ u p q. let s = t.1 in let no : ⊥ = cc in no)
+          (put_here asked w None, put_here gift w true, two, put_here letter w 2, filled t.0 (sym ok.2 ∙ two) ok.3)
         where
           filled : (b : Bool) → told_word b ≡ 2 → IsFilled b (post w) → IsFilled true (post w)
           filled true e h = h
@@ -245,9 +270,9 @@ module _ (workers : ℕ) (few_workers : workers ≤ 31) (request mail : ℕ → 
           let t = is_told w v (phase w) (M.each w) at (omega (arith, three)) in
           let ok = subst (PhaseOk workers request mail post asked answering letter gift w) t.1 (M.each w) in
           alone w Still mail post (put asked w None) (put letter w 3) (put gift w false)
-            (λ a d. record { asked_is = put_other asked w None a d; gift_is = put_other gift w false a d; mail_is = refl; letter_is = put_other letter w 3 a d; post_is = refl; request_is = λ u q. q; answering_is = λ u p q. q })
-            (λ u q. let s = t.1 in let no : ⊥ = cc in no) (λ u p q. let s = t.1 in let no : ⊥ = cc in no)
-            (put_here asked w None, put_here gift w false, three ∙ sym (put_here letter w 3), omega (arith, three), empty t.0 (sym ok.2 ∙ three) ok.3)
+          (λ a d. record { asked_is = put_other asked w None a d; gift_is = put_other gift w false a d; mail_is = refl; letter_is = put_other letter w 3 a d; post_is = refl; request_is = λ u q. q; answering_is = λ u p q. q })
+          (λ u q. let s = t.1 in let no : ⊥ = cc in no) (λ u p q. let s = t.1 in let no : ⊥ = cc in no)
+          (put_here asked w None, put_here gift w false, three ∙ sym (put_here letter w 3), omega (arith, three), empty t.0 (sym ok.2 ∙ three) ok.3)
         where
           empty : (b : Bool) → told_word b ≡ 3 → IsFilled b (post w) → post w ≡ None
           empty false e h = h
@@ -259,20 +284,22 @@ module _ (workers : ℕ) (few_workers : workers ≤ 31) (request mail : ℕ → 
           let t : phase w ≡ Still = is_still w (phase w) (M.each w) at f in
           let ok = subst (PhaseOk workers request mail post asked answering letter gift w) t (M.each w) in
           alone w Still (put mail w n) post asked (put letter w n) gift
-            (λ a d. record { asked_is = refl; gift_is = refl; mail_is = put_other mail w n a d; letter_is = put_other letter w n a d; post_is = refl; request_is = λ u q. q; answering_is = λ u p q. q })
-            (λ u q. let no : ⊥ = cc in no) (λ u p q. let no : ⊥ = cc in no)
-            (at, f, put_here mail w n ∙ sym (put_here letter w n), subst (λ (k : ℕ). k ≤ 3) (sym (put_here mail w n)) (omega (arith, small)), ok.4)
+          (λ a d. record { asked_is = refl; gift_is = refl; mail_is = put_other mail w n a d; letter_is = put_other letter w n a d; post_is = refl; request_is = λ u q. q; answering_is = λ u p q. q })
+          (λ u q. let no : ⊥ = cc in no) (λ u p q. let no : ⊥ = cc in no)
+          (at, f, put_here mail w n ∙ sym (put_here letter w n), subst (λ (k : ℕ). k ≤ 3) (sym (put_here mail w n)) (omega (arith, small)), ok.4)
 
       -- w takes the chain that was given to it
       pub take_mail : (w : ℕ) → gift w ≡ true → IsFilled true (post w) × Mailing workers request mail (put post w None) asked answering letter (put gift w false) (put phase w Still)
       take_mail w f =
           let t : phase w ≡ Given = is_given w (phase w) (M.each w) f in
           let ok = subst (PhaseOk workers request mail post asked answering letter gift w) t (M.each w) in
-          let two = ok.2 in
-          (ok.4, alone w Still mail (put post w None) asked letter (put gift w false)
-            (λ a d. record { asked_is = refl; gift_is = put_other gift w false a d; mail_is = refl; letter_is = refl; post_is = put_other post w None a d; request_is = λ u q. q; answering_is = λ u p q. q })
-            (λ u q. let no : ⊥ = cc in no) (λ u p q. let no : ⊥ = cc in no)
-            (ok.0, put_here gift w false, ok.2 ∙ sym ok.3, omega (arith, two), put_here post w None))
+          let two = ok.2 in (
+            ok.4,
+            alone w Still mail (put post w None) asked letter (put gift w false)
+                (λ a d. record { asked_is = refl; gift_is = put_other gift w false a d; mail_is = refl; letter_is = refl; post_is = put_other post w None a d; request_is = λ u q. q; answering_is = λ u p q. q })
+                (λ u q. let no : ⊥ = cc in no) (λ u p q. let no : ⊥ = cc in no)
+                (ok.0, put_here gift w false, ok.2 ∙ sym ok.3, omega (arith, two), put_here post w None),
+          )
 
       -- ---- what is promised
 

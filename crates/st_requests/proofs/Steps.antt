@@ -1,5 +1,5 @@
 -- Each kind of step keeps the requests: step_kept. stays is for all that changes nothing that they read.
-use Rattle.std.proofs.Common.{◌≡◌, ◌≢◌, ◌⊎◌, inl, inr, ⊎_elim, ℕ, zero, suc, ◌+◌, ◌-◌, ◌≤◌, ◌<◌, Bool, true, false, cond, ◌||◌, Option, Some, None, refl, sym, ap, ◌∙◌, subst, arith, ◌==◌, ◌&&◌, eq-eqb, ne_eqb, is_some}
+use Rattle.std.proofs.Common.{◌≡◌, ◌≢◌, inl, inr, ℕ, suc, ◌-◌, ◌≤◌, ◌<◌, Bool, true, false, ◌||◌, Option, Some, None, refl, sym, ap, ◌∙◌, subst, arith, ◌==◌, ◌&&◌, eq-eqb, ne_eqb, is_some}
 use mathlib.Core.Logic.{dite}
 use native.Mathlib.Decide.{ℕ_discrete}
 use Rattle.st_base.specs.declared.chain.Chain.{Chain}
@@ -10,13 +10,13 @@ use Rattle.st_words.specs.declared.view.Answering.{Answering}
 use Rattle.st_words.specs.declared.view.Cargo.{Cargo}
 use Rattle.st_words.specs.declared.view.View.{View}
 use Rattle.st_words.specs.Encodings.{asking, answering_word, waiting, given, refused, ready}
-use Rattle.st_words.specs.Steps.{Step, StackLoad, StackStore, Mark, Look, CellLoad, CellStore, CellChange, Draw, ActiveAdd, ActiveLoad, StopLoad, StopSet, RootTake, RequestLoad, RequestChange, MailLoad, MailStore, OutStore, SlotTake, SlotPut, OutLoad, Answer, Done, Number, Looked, Took, Can, MayRequest, MayMail, MayTake, MayPut}
-use Rattle.st_words.specs.Views.{Progress, with_progress, view_after, Does, requested, request_by, own_request, other_request, mail_when, mail_read, mail_sent, answered, put_into_mail, slot_taken, no_cargo, in_hand}
+use Rattle.st_words.specs.Steps.{Step, StackStore, Mark, CellStore, CellChange, Draw, ActiveAdd, StopSet, RootTake, RequestChange, MailLoad, MailStore, OutStore, SlotTake, SlotPut, Answer, Done, Number, Looked, Took, Can, MayRequest, MayMail, MayTake, MayPut}
+use Rattle.st_words.specs.Views.{Progress, with_progress, view_after, Does, requested, request_by, mail_when, mail_sent, answered, put_into_mail, slot_taken, no_cargo, in_hand}
 use Rattle.st_words.proofs.Lists.{same_true}
 use Rattle.st_words.proofs.Naming.{size_laws}
 use Rattle.st_world.specs.Functions.{put}
 use Rattle.st_world.specs.World.{World, seen, with_word, waking, woken, put_if, Finds, changed, world_after}
-use Rattle.st_requests.specs.Mailing.{Phase, Still, Asks, Answers, Told, Given, IsFilled, told_word, PhaseOk, AnswerOk, Mailing, IsNumbered, Asking, Requests, asks, answers, letters, gifts}
+use Rattle.st_requests.specs.Mailing.{Phase, Still, Asks, Answers, Told, Given, told_word, PhaseOk, AnswerOk, Mailing, IsNumbered, Asking, Requests, asks, answers, letters, gifts}
 use Rattle.st_requests.proofs.Functions.{put_here, put_other, part_eq, part_same}
 use Rattle.st_requests.proofs.Mails as mails
 use Rattle.st_requests.proofs.ViewsAfter.{SameParts, IsQuiet, same_after}
@@ -40,10 +40,10 @@ module _ (workers : ℕ) (request mail : ℕ → ℕ) (post : ℕ → Option Cha
     few = G.few;
     numbered = numbered s;
     mailing =
-      subst (λ (x : ℕ → Bool). Mailing workers request' mail' post' (asks (put view w v)) (answers (put view w v)) (letters (put view w v)) x phase') t
-      (subst (λ (x : ℕ → ℕ). Mailing workers request' mail' post' (asks (put view w v)) (answers (put view w v)) x d phase') r
-      (subst (λ (x : ℕ → Option Answering). Mailing workers request' mail' post' (asks (put view w v)) x c d phase') q
-      (subst (λ (x : ℕ → Option ℕ). Mailing workers request' mail' post' x b c d phase') p m)));
+        subst (λ (x : ℕ → Bool). Mailing workers request' mail' post' (asks (put view w v)) (answers (put view w v)) (letters (put view w v)) x phase') t
+        (subst (λ (x : ℕ → ℕ). Mailing workers request' mail' post' (asks (put view w v)) (answers (put view w v)) x d phase') r
+        (subst (λ (x : ℕ → Option Answering). Mailing workers request' mail' post' (asks (put view w v)) x c d phase') q
+        (subst (λ (x : ℕ → Option ℕ). Mailing workers request' mail' post' x b c d phase') p m)));
   }
 
   pub stays : SameNumbers (view w) v → SameParts (view w) v → Asking workers request mail post (put view w v)
@@ -132,8 +132,8 @@ module _ (x : World) (G : Requests x) (w : ℕ) (less : w < x.workers) (pr : Pro
       subst (λ (k : ℕ). Requested x w pr at old k true) (sym same)
       (subst (λ (y : View). Requests (seen w (with_progress pr y) (record x { request = put x.request at (suc w) }))) (sym (asked_view at old w d))
       (rebuilt x.workers x.request x.mail x.post x.view G w v (put x.request at (suc w)) x.mail x.post (put G.phase w (Asks at)) (put (asks x.view) w (Some at)) (answers x.view) (letters x.view) (gifts x.view) (refl, refl)
-        (part_eq (λ (y : View). y.asked) x.view w v) (part_same (λ (y : View). y.answering) x.view w v refl) (part_same (λ (y : View). y.mail) x.view w v refl) (part_same (λ (y : View). y.given) x.view w v refl)
-        (mails.ask x.workers G.few x.request x.mail x.post (asks x.view) (answers x.view) (letters x.view) (gifts x.view) G.phase G.mailing w at less (λ q. d (sym q ∙ sym number)) n g small z)))
+      (part_eq (λ (y : View). y.asked) x.view w v) (part_same (λ (y : View). y.answering) x.view w v refl) (part_same (λ (y : View). y.mail) x.view w v refl) (part_same (λ (y : View). y.given) x.view w v refl)
+      (mails.ask x.workers G.few x.request x.mail x.post (asks x.view) (answers x.view) (letters x.view) (gifts x.view) G.phase G.mailing w at less (λ q. d (sym q ∙ sym number)) n g small z)))
 
   begin : (at old new a : ℕ) → at ≡ u.number → a < x.workers → old ≡ asking a → new ≡ answering_word → x.request at ≡ old → Requested x w pr at old new true
   begin at old new a e below o k f =
@@ -145,8 +145,8 @@ module _ (x : World) (G : Requests x) (w : ℕ) (less : w < x.workers) (pr : Pro
       (subst (λ (y : View). Requests (seen w (with_progress pr y) (record x { request = put x.request at 32 }))) (sym (begun_view at a e))
       (subst (λ (i : ℕ). Requests (seen w v (record x { request = put x.request i 32 }))) (sym there)
       (rebuilt x.workers x.request x.mail x.post x.view G w v (put x.request w 32) x.mail x.post (put G.phase a (Answers w false)) (asks x.view) (put (answers x.view) w (Some (record { asker = a; put = false; told = false }))) (letters x.view) (gifts x.view) (refl, refl)
-        (part_same (λ (y : View). y.asked) x.view w v refl) (part_eq (λ (y : View). y.answering) x.view w v) (part_same (λ (y : View). y.mail) x.view w v refl) (part_same (λ (y : View). y.given) x.view w v refl)
-        (mails.begin x.workers G.few x.request x.mail x.post (asks x.view) (answers x.view) (letters x.view) (gifts x.view) G.phase G.mailing w a below (ap x.request (sym there) ∙ (f ∙ past)))))))
+      (part_same (λ (y : View). y.asked) x.view w v refl) (part_eq (λ (y : View). y.answering) x.view w v) (part_same (λ (y : View). y.mail) x.view w v refl) (part_same (λ (y : View). y.given) x.view w v refl)
+      (mails.begin x.workers G.few x.request x.mail x.post (asks x.view) (answers x.view) (letters x.view) (gifts x.view) G.phase G.mailing w a below (ap x.request (sym there) ∙ (f ∙ past)))))))
 
   clear : (at old new : ℕ) (y : Answering) → at ≡ u.number → u.answering ≡ Some y → y.told ≡ true → new ≡ 0 → Requested x w pr at old new true
   clear at old new y e is told k =
@@ -156,8 +156,8 @@ module _ (x : World) (G : Requests x) (w : ℕ) (less : w < x.workers) (pr : Pro
       (subst (λ (y : View). Requests (seen w (with_progress pr y) (record x { request = put x.request at 0 }))) (sym (cleared_view at old e))
       (subst (λ (i : ℕ). Requests (seen w v (record x { request = put x.request i 0 }))) (sym there)
       (rebuilt x.workers x.request x.mail x.post x.view G w v (put x.request w 0) x.mail x.post G.phase (asks x.view) (put (answers x.view) w None) (letters x.view) (gifts x.view) (refl, refl)
-        (part_same (λ (y : View). y.asked) x.view w v refl) (part_eq (λ (y : View). y.answering) x.view w v) (part_same (λ (y : View). y.mail) x.view w v refl) (part_same (λ (y : View). y.given) x.view w v refl)
-        (mails.clear x.workers G.few x.request x.mail x.post (asks x.view) (answers x.view) (letters x.view) (gifts x.view) G.phase G.mailing w y is told))))
+      (part_same (λ (y : View). y.asked) x.view w v refl) (part_eq (λ (y : View). y.answering) x.view w v) (part_same (λ (y : View). y.mail) x.view w v refl) (part_same (λ (y : View). y.given) x.view w v refl)
+      (mails.clear x.workers G.few x.request x.mail x.post (asks x.view) (answers x.view) (letters x.view) (gifts x.view) G.phase G.mailing w y is told))))
 
   -- a request that is found is unanswered, and stands at another worker
   stands_elsewhere : (at : ℕ) → x.request at ≡ suc w → w ≢ at
@@ -173,8 +173,8 @@ module _ (x : World) (G : Requests x) (w : ℕ) (less : w < x.workers) (pr : Pro
       subst (λ (k : ℕ). Requested x w pr at old k true) (sym k)
       (subst (λ (y : View). Requests (seen w (with_progress pr y) (record x { request = put x.request at 0 }))) (sym (withdrawn_view at old other))
       (rebuilt x.workers x.request x.mail x.post x.view G w v (put x.request at 0) x.mail x.post (put G.phase w Still) (put (asks x.view) w None) (answers x.view) (letters x.view) (gifts x.view) (refl, refl)
-        (part_eq (λ (y : View). y.asked) x.view w v) (part_same (λ (y : View). y.answering) x.view w v refl) (part_same (λ (y : View). y.mail) x.view w v refl) (part_same (λ (y : View). y.given) x.view w v refl)
-        (mails.withdraw x.workers G.few x.request x.mail x.post (asks x.view) (answers x.view) (letters x.view) (gifts x.view) G.phase G.mailing w at less found)))
+      (part_eq (λ (y : View). y.asked) x.view w v) (part_same (λ (y : View). y.answering) x.view w v refl) (part_same (λ (y : View). y.mail) x.view w v refl) (part_same (λ (y : View). y.given) x.view w v refl)
+      (mails.withdraw x.workers G.few x.request x.mail x.post (asks x.view) (answers x.view) (letters x.view) (gifts x.view) G.phase G.mailing w at less found)))
 
   changes : (at old new : ℕ) → MayRequest u at old new → x.request at ≡ old → Requested x w pr at old new true
   changes at old new (inl h) f = ask at old new h.0 h.1 h.2 h.3 h.5 (f ∙ h.4)
@@ -210,24 +210,24 @@ module _ (x : World) (G : Requests x) (w : ℕ) (less : w < x.workers) (pr : Pro
   read_given v e f =
       let y : View = with_progress pr (record u { mail = 2; asked = None; given = true }) in
       rebuilt x.workers x.request x.mail x.post x.view G w y x.request x.mail x.post (put G.phase w Given) (put (asks x.view) w None) (answers x.view) (put (letters x.view) w 2) (put (gifts x.view) w true) (refl, refl)
-        (part_eq (λ (y : View). y.asked) x.view w y) (part_same (λ (y : View). y.answering) x.view w y refl) (part_eq (λ (y : View). y.mail) x.view w y) (part_eq (λ (y : View). y.given) x.view w y)
-        (mails.read_given x.workers G.few x.request x.mail x.post (asks x.view) (answers x.view) (letters x.view) (gifts x.view) G.phase G.mailing w v e (sym f))
+      (part_eq (λ (y : View). y.asked) x.view w y) (part_same (λ (y : View). y.answering) x.view w y refl) (part_eq (λ (y : View). y.mail) x.view w y) (part_eq (λ (y : View). y.given) x.view w y)
+      (mails.read_given x.workers G.few x.request x.mail x.post (asks x.view) (answers x.view) (letters x.view) (gifts x.view) G.phase G.mailing w v e (sym f))
 
   read_refused : (v : ℕ) → u.asked ≡ Some v → 3 ≡ x.mail w → Read 3 (Some v)
   read_refused v e f =
       let y : View = with_progress pr (record u { mail = 3; asked = None; given = false }) in
       rebuilt x.workers x.request x.mail x.post x.view G w y x.request x.mail x.post (put G.phase w Still) (put (asks x.view) w None) (answers x.view) (put (letters x.view) w 3) (put (gifts x.view) w false) (refl, refl)
-        (part_eq (λ (y : View). y.asked) x.view w y) (part_same (λ (y : View). y.answering) x.view w y refl) (part_eq (λ (y : View). y.mail) x.view w y) (part_eq (λ (y : View). y.given) x.view w y)
-        (mails.read_refused x.workers G.few x.request x.mail x.post (asks x.view) (answers x.view) (letters x.view) (gifts x.view) G.phase G.mailing w v e (sym f))
+      (part_eq (λ (y : View). y.asked) x.view w y) (part_same (λ (y : View). y.answering) x.view w y refl) (part_eq (λ (y : View). y.mail) x.view w y) (part_eq (λ (y : View). y.given) x.view w y)
+      (mails.read_refused x.workers G.few x.request x.mail x.post (asks x.view) (answers x.view) (letters x.view) (gifts x.view) G.phase G.mailing w v e (sym f))
 
   read_by : (n : ℕ) (o : Option ℕ) → u.asked ≡ o → n ≡ x.mail w → Read n o
   read_by n None e f = same_letter n (f ∙ (mails.mail_promised x.workers G.few x.request x.mail x.post (asks x.view) (answers x.view) (letters x.view) (gifts x.view) G.phase G.mailing w).1 e)
   read_by n (Some v) e f = dite (ℕ_discrete n 2)
       (λ (s : n ≡ 2). subst (λ (n : ℕ). Read n (Some v)) (sym s) (read_given v e (sym s ∙ f)))
       (λ (d : n ≢ 2). dite (ℕ_discrete n 3)
-        (λ (s : n ≡ 3). subst (λ (n : ℕ). Read n (Some v)) (sym s) (read_refused v e (sym s ∙ f)))
-        (λ (c : n ≢ 3). subst (λ (b : Bool). Requests (seen w (with_progress pr (mail_when b n u)) x)) (sym (ap (λ (b : Bool). b || (n == 3)) (ne_eqb n 2 d) ∙ ne_eqb n 3 c))
-          (same_letter n (f ∙ unread (G.phase w) (G.mailing.each w) (λ t. d (f ∙ t)) (λ t. c (f ∙ t))))))
+      (λ (s : n ≡ 3). subst (λ (n : ℕ). Read n (Some v)) (sym s) (read_refused v e (sym s ∙ f)))
+      (λ (c : n ≢ 3). subst (λ (b : Bool). Requests (seen w (with_progress pr (mail_when b n u)) x)) (sym (ap (λ (b : Bool). b || (n == 3)) (ne_eqb n 2 d) ∙ ne_eqb n 3 c))
+      (same_letter n (f ∙ unread (G.phase w) (G.mailing.each w) (λ t. d (f ∙ t)) (λ t. c (f ∙ t))))))
 
   pub letter_kept : (n : ℕ) → n ≡ x.mail w → Requests (world_after x w MailLoad (Number n) (with_progress pr (view_after u MailLoad (Number n))))
   unfolding view_after
@@ -242,8 +242,8 @@ module _ (x : World) (G : Requests x) (w : ℕ) (less : w < x.workers) (pr : Pro
       subst (λ (b : Bool). Requests (seen w (with_progress pr (mail_sent b n u)) (record x { mail = put x.mail at n }))) (sym (eq-eqb at u.number e))
       (subst (λ (i : ℕ). Requests (seen w v (record x { mail = put x.mail i n }))) (sym there)
       (rebuilt x.workers x.request x.mail x.post x.view G w v x.request (put x.mail w n) x.post (put G.phase w Still) (asks x.view) (answers x.view) (put (letters x.view) w n) (gifts x.view) (refl, refl)
-        (part_same (λ (y : View). y.asked) x.view w v refl) (part_same (λ (y : View). y.answering) x.view w v refl) (part_eq (λ (y : View). y.mail) x.view w v) (part_same (λ (y : View). y.given) x.view w v refl)
-        (mails.set_mail x.workers G.few x.request x.mail x.post (asks x.view) (answers x.view) (letters x.view) (gifts x.view) G.phase G.mailing w n a g small)))
+      (part_same (λ (y : View). y.asked) x.view w v refl) (part_same (λ (y : View). y.answering) x.view w v refl) (part_eq (λ (y : View). y.mail) x.view w v) (part_same (λ (y : View). y.given) x.view w v refl)
+      (mails.set_mail x.workers G.few x.request x.mail x.post (asks x.view) (answers x.view) (letters x.view) (gifts x.view) G.phase G.mailing w n a g small)))
 
   -- the worker that is answered is another one
   answers_other : (y : Answering) → u.answering ≡ Some y → y.asker ≢ w
@@ -257,8 +257,8 @@ module _ (x : World) (G : Requests x) (w : ℕ) (less : w < x.workers) (pr : Pro
       (subst (λ (b : Bool). Requests (seen w (with_progress pr (mail_sent b (told_word p) u)) (record x { mail = put x.mail a (told_word p) }))) (sym (ne_eqb a u.number other))
       (subst (λ (o : Option Answering). Requests (seen w (with_progress pr (record u { answering = answered o })) (record x { mail = put x.mail a (told_word p) }))) (sym e)
       (rebuilt x.workers x.request x.mail x.post x.view G w v x.request (put x.mail a (told_word p)) x.post (put G.phase a (Told w p)) (asks x.view) (put (answers x.view) w (Some (record { asker = a; put = p; told = true }))) (letters x.view) (gifts x.view) (refl, refl)
-        (part_same (λ (y : View). y.asked) x.view w v refl) (part_eq (λ (y : View). y.answering) x.view w v) (part_same (λ (y : View). y.mail) x.view w v refl) (part_same (λ (y : View). y.given) x.view w v refl)
-        (mails.tell x.workers G.few x.request x.mail x.post (asks x.view) (answers x.view) (letters x.view) (gifts x.view) G.phase G.mailing w a p e))))
+      (part_same (λ (y : View). y.asked) x.view w v refl) (part_eq (λ (y : View). y.answering) x.view w v) (part_same (λ (y : View). y.mail) x.view w v refl) (part_same (λ (y : View). y.given) x.view w v refl)
+      (mails.tell x.workers G.few x.request x.mail x.post (asks x.view) (answers x.view) (letters x.view) (gifts x.view) G.phase G.mailing w a p e))))
 
   same_answer : (y : Answering) (a : ℕ) (p t : Bool) → y.asker ≡ a → y.put ≡ p → y.told ≡ t → y ≡ record { asker = a; put = p; told = t }
   same_answer y a p t d e f = λ i. record { asker = d i; put = e i; told = f i }
@@ -281,8 +281,8 @@ module _ (x : World) (G : Requests x) (w : ℕ) (less : w < x.workers) (pr : Pro
       let v : View = with_progress pr (slot_taken (Mail at) cargo u) in
       subst (λ (i : ℕ). Asking x.workers x.request x.mail (put x.post i None) (put x.view w v)) (sym there)
       (rebuilt x.workers x.request x.mail x.post x.view G w v x.request x.mail (put x.post w None) (put G.phase w Still) (asks x.view) (answers x.view) (letters x.view) (put (gifts x.view) w false) (refl, refl)
-        (part_same (λ (y : View). y.asked) x.view w v refl) (part_same (λ (y : View). y.answering) x.view w v refl) (part_same (λ (y : View). y.mail) x.view w v refl) (part_eq (λ (y : View). y.given) x.view w v)
-        (mails.take_mail x.workers G.few x.request x.mail x.post (asks x.view) (answers x.view) (letters x.view) (gifts x.view) G.phase G.mailing w may.1).1)
+      (part_same (λ (y : View). y.asked) x.view w v refl) (part_same (λ (y : View). y.answering) x.view w v refl) (part_same (λ (y : View). y.mail) x.view w v refl) (part_eq (λ (y : View). y.given) x.view w v)
+      (mails.take_mail x.workers G.few x.request x.mail x.post (asks x.view) (answers x.view) (letters x.view) (gifts x.view) G.phase G.mailing w may.1).1)
 
   pub take_kept : (at : ℕ) (o : Option Chain) (cargo : Cargo) → MayTake u (Mail at) → o ≡ x.post at → Requests (world_after x w (SlotTake (Mail at)) (Took o cargo) (with_progress pr (view_after u (SlotTake (Mail at)) (Took o cargo))))
   unfolding view_after
@@ -298,10 +298,10 @@ module _ (x : World) (G : Requests x) (w : ℕ) (less : w < x.workers) (pr : Pro
 
   put_by : (at : ℕ) (chain : Chain) (cargo : Cargo) (y : View) → (y.asked ≡ u.asked) × (y.answering ≡ Some (record { asker = at; put = true; told = false })) × (y.mail ≡ u.mail) × (y.given ≡ u.given) → SameNumbers u y → u.answering ≡ Some (record { asker = at; put = false; told = false }) → Asking x.workers x.request x.mail (put x.post at (Some chain)) (put x.view w y)
   put_by at chain cargo y p s e = rebuilt x.workers x.request x.mail x.post x.view G w y x.request x.mail (put x.post at (Some chain)) (put G.phase at (Answers w true)) (asks x.view) (put (answers x.view) w (Some (record { asker = at; put = true; told = false }))) (letters x.view) (gifts x.view) s
-        (part_same (λ (y : View). y.asked) x.view w y p.0)
-        (ap (λ (o : Option Answering). put (answers x.view) w o) (sym p.1) ∙ part_eq (λ (y : View). y.answering) x.view w y)
-        (part_same (λ (y : View). y.mail) x.view w y p.2) (part_same (λ (y : View). y.given) x.view w y p.3)
-        (mails.put_mail x.workers G.few x.request x.mail x.post (asks x.view) (answers x.view) (letters x.view) (gifts x.view) G.phase G.mailing w at chain e)
+      (part_same (λ (y : View). y.asked) x.view w y p.0)
+      (ap (λ (o : Option Answering). put (answers x.view) w o) (sym p.1) ∙ part_eq (λ (y : View). y.answering) x.view w y)
+      (part_same (λ (y : View). y.mail) x.view w y p.2) (part_same (λ (y : View). y.given) x.view w y p.3)
+      (mails.put_mail x.workers G.few x.request x.mail x.post (asks x.view) (answers x.view) (letters x.view) (gifts x.view) G.phase G.mailing w at chain e)
 
   pub put_kept : (at : ℕ) (chain : Chain) (cargo : Cargo) → MayPut u (Mail at) chain → Requests (world_after x w (SlotPut (Mail at) chain cargo) Done (with_progress pr (view_after u (SlotPut (Mail at) chain cargo) Done)))
   unfolding view_after

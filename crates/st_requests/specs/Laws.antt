@@ -1,13 +1,18 @@
 -- The laws of requests and mail, over worlds. Read Kept (each kind of step of a worker keeps them, whatever is answered) and SlotLaws (who may take from a mail
--- slot finds it filled, and who may put into one finds it empty).
-use Rattle.std.specs.Prelude.{◌≡◌, ℕ, ◌<◌, Option, Some, None}
+-- slot finds it filled, and who may put into one finds it empty), ToldLaws (what loads promise) and MoveLaws (what a worker does between steps).
+use Rattle.std.specs.Prelude.{◌≡◌, ℕ, ◌<◌, List, Some, None}
 use Rattle.st_base.specs.declared.chain.Chain.{Chain}
+use Rattle.st_base.specs.declared.chain.Frame.{Frame}
+use Rattle.st_base.specs.declared.chain.Waiting.{Waiting}
 use Rattle.st_words.specs.declared.view.Slot.TheVariants.{Mail}
+use Rattle.st_words.specs.declared.view.Known.{Known}
+use Rattle.st_words.specs.declared.view.Carried.{Carried}
 use Rattle.st_words.specs.declared.view.View.{View}
 use Rattle.st_words.specs.Steps.{Step, Answer, Number, RequestLoad, MailLoad, Can, MayTake, MayPut}
 use Rattle.st_words.specs.Promises.{Promises}
-use Rattle.st_words.specs.Views.{Does}
-use Rattle.st_world.specs.World.{World, Finds, world_after}
+use Rattle.st_words.specs.Views.{Progress, with_progress, Does}
+use Rattle.st_words.specs.Moves.{suspending, giving, restarting, beginning, exporting}
+use Rattle.st_world.specs.World.{World, seen, Finds, world_after}
 use Rattle.st_requests.specs.Mailing.{Requests}
 
 abbrev pub Kept : Type 0
@@ -20,3 +25,12 @@ pub record SlotLaws : Type 0 where
 pub record ToldLaws : Type 0 where
   pub letters : (x : World) (w n : ℕ) → Requests x → Finds x w MailLoad (Number n) → Promises (x.view w) MailLoad (Number n)
   pub requests : (x : World) (w at n : ℕ) → Requests x → w < x.workers → Finds x w (RequestLoad at) (Number n) → Promises (x.view w) (RequestLoad at) (Number n)
+
+-- what a worker does by itself changes nothing that is read
+pub record MoveLaws : Type 0 where
+  pub progresses : (x : World) (w : ℕ) (progress : Progress) → Requests x → Requests (seen w (with_progress progress (x.view w)) x)
+  pub suspends : (x : World) (w : ℕ) (t : Known) (rest : List Known) (wait : Waiting) → Requests x → Requests (seen w (suspending t rest wait (x.view w)) x)
+  pub gives : (x : World) (w : ℕ) (t : Known) (above : List Known) → Requests x → Requests (seen w (giving t above (x.view w)) x)
+  pub restarts : (x : World) (w : ℕ) (carried : Carried) → Requests x → Requests (seen w (restarting carried (x.view w)) x)
+  pub begins : (x : World) (w : ℕ) (child parent : Known) (rest : List Known) → Requests x → Requests (seen w (beginning child parent rest (x.view w)) x)
+  pub exports : (x : World) (w : ℕ) (f : Frame) → Requests x → Requests (seen w (exporting f (x.view w)) x)

@@ -1,6 +1,6 @@
 -- Requests and mail. Read Requests, which is of a world; `phase` tells how far the request of each worker is, and Mailing ties it to what its view, the
 -- request words, its mail word and its mail slot show. No clause is about two views but by the phase.
-use Rattle.std.specs.Prelude.{◌≡◌, ◌≢◌, ◌⊎◌, ℕ, suc, ◌+◌, ◌≤◌, ◌<◌, Bool, true, false, Option, Some, None}
+use Rattle.std.specs.Prelude.{◌≡◌, ◌≢◌, ◌⊎◌, ℕ, suc, ◌≤◌, ◌<◌, Bool, true, false, Option, Some, None}
 use Rattle.st_base.specs.declared.chain.Chain.{Chain}
 use Rattle.st_words.specs.declared.view.Answering.{Answering}
 use Rattle.st_words.specs.declared.view.View.{View}

@@ -1,5 +1,5 @@
 //! Requests and mail are kept by all that workers do, and what follows from them: laws without code.
-ghost use Rattle.st_requests.specs.Laws.{Kept, SlotLaws, ToldLaws};
+ghost use Rattle.st_requests.specs.Laws.{Kept, SlotLaws, ToldLaws, MoveLaws};
 
 /// Each of the kinds of step of a worker keeps the requests and the mail, whatever is answered.
 pub fn steps_keep()
@@ -14,4 +14,9 @@ pub fn slot_laws()
 /// What loads of request words and of the own mail word promise.
 pub fn told_laws()
     ensures { ToldLaws }
+{}
+
+/// What a worker does between its steps keeps them.
+pub fn moves_keep()
+    ensures { MoveLaws }
 {}
