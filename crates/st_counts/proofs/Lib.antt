@@ -1,0 +1,5 @@
+pub mod Sums
+pub mod Changes
+pub mod ViewsAfter
+pub mod Moves
+pub mod Follows
