@@ -1,5 +1,5 @@
 -- One worker changes: recounted. active_most says that the count is far from where it would wrap.
-use Rattle.std.proofs.Common.{◌≡◌, ◌≢◌, ◌⊎◌, ℕ, zero, suc, ◌+◌, ◌-◌, ◌*◌, ◌%◌, ◌^◌, ◌≤◌, ◌<◌, Bool, true, false, Option, Some, None, refl, sym, ap, ◌∙◌, subst, arith, mod-eq_of_lt}
+use Rattle.std.proofs.Common.{◌≡◌, ◌≢◌, ℕ, ◌+◌, ◌-◌, ◌%◌, ◌^◌, ◌≤◌, ◌<◌, true, Option, sym, ap, ◌∙◌, subst, arith, mod-eq_of_lt}
 use Rattle.std.proofs.Math.Nat.{add-mod_right}
 use Rattle.st_base.specs.declared.chain.Chain.{Chain}
 use Rattle.st_words.specs.declared.view.Cargo.{Cargo}
@@ -7,7 +7,7 @@ use Rattle.st_words.specs.declared.view.View.{View}
 use Rattle.st_words.specs.Plain.{one_more, one_less}
 use Rattle.st_words.specs.Shares.{Covered}
 use Rattle.st_world.specs.Functions.{put}
-use Rattle.st_world.proofs.Functions.{put_all, total_part, total_none}
+use Rattle.st_world.proofs.Functions.{put_all, total_part}
 use Rattle.st_counts.specs.Counting.{units, shares, filling, IsNumbered, Counting}
 use Rattle.st_counts.proofs.Sums.{shares_same, shares_most, units_most, filling_most}
 

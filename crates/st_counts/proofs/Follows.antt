@@ -1,17 +1,15 @@
 -- What follows from the active count: told_laws and none_laws.
-use Rattle.std.proofs.Common.{◌≡◌, ◌≢◌, ⊎_elim, ℕ, zero, suc, ◌+◌, ◌-◌, ◌%◌, ◌^◌, ◌≤◌, ◌<◌, Bool, true, false, List, [], ◌∷◌, length, Option, None, refl, sym, ap, ◌∙◌, subst, arith, ◌==◌, ◌&&◌}
+use Rattle.std.proofs.Common.{◌≡◌, ℕ, ◌+◌, ◌≤◌, ◌<◌, Bool, true, false, [], length, None, refl, sym, ◌∙◌, subst, arith, ◌==◌, ◌&&◌}
 use Rattle.st_words.specs.declared.view.CellWord.{CellWord}
 use Rattle.st_words.specs.declared.view.CellWord.TheVariants.{Owner, State, Value, Next, Standing, Trap}
 use Rattle.st_words.specs.declared.view.Slot.TheVariants.{Cell, Mail}
 use Rattle.st_words.specs.declared.view.View.{View}
 use Rattle.st_words.specs.Encodings.{ready}
-use Rattle.st_words.specs.Steps.{Step, StackStore, Mark, CellStore, CellChange, Draw, ActiveAdd, ActiveLoad, StopSet, RootTake, RequestChange, MailStore, OutStore, SlotTake, SlotPut, Answer, Done, Number, Looked, Took, Can, some_thread}
+use Rattle.st_words.specs.Steps.{Step, StackStore, Mark, CellStore, CellChange, Draw, ActiveAdd, StopSet, RootTake, RequestChange, MailStore, OutStore, SlotTake, SlotPut, Answer, Number, Can, some_thread}
 use Rattle.st_words.specs.Views.{in_hand}
-use Rattle.st_words.specs.Plain.{one_more, one_less, added}
-use Rattle.st_words.specs.Promises.{Promises}
-use Rattle.st_world.specs.World.{World, with_word, waking, woken, Finds, changed, world_after}
+use Rattle.st_world.specs.World.{World, with_word, waking, woken, world_after}
 use Rattle.st_world.proofs.Functions.{total_none}
-use Rattle.st_counts.specs.Counting.{units, shares, Counts}
+use Rattle.st_counts.specs.Counting.{units, Counts}
 use Rattle.st_counts.specs.Laws.{ToldLaws, NoneLaws}
 use Rattle.st_counts.proofs.Sums.{filling_none, none_or, some_thread_none, length_none}
 use Rattle.st_counts.proofs.Changes.{active_most, share_within, one_more_is, one_less_is}

@@ -3,3 +3,6 @@ pub mod Changes
 pub mod ViewsAfter
 pub mod Moves
 pub mod Follows
+pub mod Steps
+pub mod Firsts
+pub mod Cautious

@@ -1,13 +1,10 @@
 -- What a worker does between its steps keeps the count: move_laws.
-use Rattle.std.proofs.Common.{◌≡◌, ◌≢◌, ℕ, suc, ◌+◌, ◌≤◌, ◌<◌, true, List, [], ◌∷◌, length, refl, sym, ap, ◌∙◌, subst, arith}
-use Rattle.st_base.specs.declared.chain.Frame.{Frame}
-use Rattle.st_base.specs.declared.chain.Waiting.{Waiting}
+use Rattle.std.proofs.Common.{◌≡◌, ◌≢◌, ℕ, ◌≤◌, true, List, [], refl, sym, ap, ◌∙◌, arith}
 use Rattle.st_words.specs.declared.view.Known.{Known}
 use Rattle.st_words.specs.declared.view.Carried.{Carried}
 use Rattle.st_words.specs.declared.view.View.{View}
 use Rattle.st_words.specs.Steps.{some_thread, taken_share}
-use Rattle.st_words.specs.Views.{Progress, with_progress}
-use Rattle.st_words.specs.Moves.{suspending, giving, restarting, beginning, exporting, MaySuspend, MayGive, MayRestart}
+use Rattle.st_words.specs.Moves.{suspending, giving, restarting, beginning, exporting, MayRestart}
 use Rattle.st_words.specs.Shares.{Covered}
 use Rattle.st_world.specs.World.{World, seen}
 use Rattle.st_counts.specs.Counting.{Counts}

@@ -1,6 +1,6 @@
 -- Sums of shares and of units: shares_put, shares_same and units_put (one is changed), shares_most and units_most (how great they are). Lists of a view:
 -- some_more (a list that isn't empty), chain_out (a chain goes out of the turn), same_standing and same_trap (a word of it is stored).
-use Rattle.std.proofs.Common.{◌≡◌, ◌≢◌, ◌⊎◌, ⊎_elim, ℕ, zero, suc, ◌+◌, ◌*◌, ◌^◌, ◌≤◌, ◌<◌, Bool, true, false, cond, not, List, [], ◌∷◌, length, Option, Some, None, refl, sym, ap, ◌∙◌, arith, ◌==◌, eq-eqb}
+use Rattle.std.proofs.Common.{◌≡◌, ◌≢◌, ⊎_elim, ℕ, zero, suc, ◌+◌, ◌*◌, ◌^◌, ◌≤◌, ◌<◌, Bool, true, false, cond, not, List, [], ◌∷◌, length, Option, Some, None, refl, sym, ap, ◌∙◌, arith, ◌==◌, eq-eqb}
 use Rattle.std.specs.List.{Contains}
 use Rattle.st_base.specs.declared.chain.Chain.{Chain}
 use Rattle.st_words.specs.declared.view.Known.{Known}
@@ -10,7 +10,7 @@ use Rattle.st_words.specs.declared.view.View.{View}
 use Rattle.st_words.specs.Steps.{some_thread}
 use Rattle.st_words.specs.Views.{without_chain, with_standing, with_trap}
 use Rattle.st_words.proofs.Lists.{contains_none, contains_case}
-use Rattle.st_world.specs.Functions.{put, total}
+use Rattle.st_world.specs.Functions.{put}
 use Rattle.st_world.proofs.Functions.{put_here, put_other, put_same, total_put, total_same}
 use Rattle.st_counts.specs.Counting.{units, shares, filling}
 

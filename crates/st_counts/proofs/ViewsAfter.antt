@@ -1,17 +1,15 @@
 -- What steps change of what the count reads of a view. IsQuiet and same_after: the share stays, the turn is as long, and no number comes into an empty
 -- hand. changed_after: a State word is changed, where the hand may grow.
-use Rattle.std.proofs.Common.{◌≡◌, ◌≢◌, ℕ, zero, suc, Bool, true, false, List, [], ◌∷◌, length, Option, Some, None, refl, ap, ◌==◌, ◌&&◌}
-use Rattle.st_base.specs.declared.chain.Chain.{Chain}
+use Rattle.std.proofs.Common.{◌≡◌, ◌≢◌, ℕ, zero, suc, Bool, true, false, List, [], ◌∷◌, length, Option, Some, None, refl, ◌==◌}
 use Rattle.st_base.specs.declared.chain.Frame.{Frame}
 use Rattle.st_base.specs.declared.chain.Waiting.{Waiting}
 use Rattle.st_words.specs.declared.view.CellWord.{CellWord}
 use Rattle.st_words.specs.declared.view.CellWord.TheVariants.{Owner, State, Value, Next, Standing, Trap}
-use Rattle.st_words.specs.declared.view.Slot.TheVariants.{Cell, Mail}
 use Rattle.st_words.specs.declared.view.Cargo.{Cargo}
 use Rattle.st_words.specs.declared.view.Waiter.{Waiter}
 use Rattle.st_words.specs.declared.view.View.{View}
-use Rattle.st_words.specs.Encodings.{full_word, head_in, given, refused}
-use Rattle.st_words.specs.Steps.{Step, StackStore, Mark, Look, CellLoad, CellStore, CellChange, Draw, ActiveAdd, ActiveLoad, StopLoad, StopSet, RootTake, RequestChange, MailLoad, MailStore, SlotTake, SlotPut, OutLoad, Answer, Done, Number, Looked, Took}
+use Rattle.st_words.specs.Encodings.{full_word, head_in}
+use Rattle.st_words.specs.Steps.{Step, StackStore, Mark, Look, CellLoad, CellStore, CellChange, Draw, ActiveAdd, ActiveLoad, StopLoad, StopSet, RootTake, RequestChange, MailLoad, MailStore, SlotTake, SlotPut, OutLoad, Answer, Done, Number, Looked}
 use Rattle.st_words.specs.Views as views
 use Rattle.st_words.specs.Views.{view_after, frame_returning, has_number, with_next, linked, seen_waiting}
 use Rattle.st_counts.proofs.Sums.{some_more, same_trap}

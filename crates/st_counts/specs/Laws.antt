@@ -1,7 +1,6 @@
 -- The laws of the active count, over worlds. Read Kept (each kind of step of a worker keeps it, whatever is answered), MoveLaws (so does what a worker does
 -- between steps), ToldLaws (what follows for the answers of steps and for each view) and NoneLaws (what it means that nothing is active).
-use Rattle.std.specs.Prelude.{◌≡◌, ◌≢◌, ◌⊎◌, ℕ, ◌+◌, ◌/◌, ◌^◌, ◌≤◌, ◌<◌, true, false, Bool, List, [], ◌∷◌, Option, Some, None}
-use Rattle.st_base.specs.declared.chain.Chain.{Chain}
+use Rattle.std.specs.Prelude.{◌≡◌, ◌≢◌, ◌⊎◌, ℕ, ◌+◌, ◌/◌, ◌^◌, ◌≤◌, ◌<◌, true, false, Bool, List, [], None}
 use Rattle.st_base.specs.declared.chain.Frame.{Frame}
 use Rattle.st_base.specs.declared.chain.Waiting.{Waiting}
 use Rattle.st_base.specs.declared.limits.Limits.{Limits}
