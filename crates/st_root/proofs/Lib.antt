@@ -1,0 +1,4 @@
+pub mod ViewsAfter
+pub mod Steps
+pub mod Follows
+pub mod Firsts
