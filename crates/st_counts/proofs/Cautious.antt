@@ -1,5 +1,6 @@
--- A careful step keeps what the count needs of it: careful_spares. It speaks of what the program means to a board, so it is no contract.
-use Rattle.std.proofs.Common.{◌≡◌, ◌≢◌, inl, inr, ⊎_elim, ℕ, false, List, [], ◌∷◌, Some, ap, ◌∙◌, subst, arith}
+-- A careful step does what the count needs of it (careful_spares), and so keeps it (careful_kept). Both speak of what the program means to a board, so they are
+-- no contracts.
+use Rattle.std.proofs.Common.{◌≡◌, ◌≢◌, inl, inr, ⊎_elim, ℕ, false, List, [], ◌∷◌, Some, ap, ◌∙◌, subst, arith, ◌<◌}
 use Rattle.std.specs.List.{Contains}
 use Rattle.st_base.specs.declared.chain.Waiting.{Waiting}
 use Rattle.st_base.specs.declared.chain.Waiting.TheVariants as waits
@@ -11,7 +12,12 @@ use Rattle.st_words.specs.declared.view.View.{View}
 use Rattle.st_words.specs.Steps.{Step, CellStore, CellChange, ActiveAdd, SlotTake, SlotPut}
 use Rattle.st_words.specs.Careful.{Meaning, Careful, InHand, TopIs, standing_of}
 use Rattle.st_words.proofs.Lists.{contains_none}
-use Rattle.st_counts.specs.Laws.{Spares, IsItem}
+use Rattle.st_words.specs.Steps.{Answer, Can}
+use Rattle.st_words.specs.Views.{Does}
+use Rattle.st_world.specs.World.{World, Finds, world_after}
+use Rattle.st_counts.specs.Counting.{Counts}
+use Rattle.st_counts.specs.Laws.{Spares, IsItem, IsWeighed, NoneBegun}
+use Rattle.st_counts.proofs.Steps.{step_kept}
 use Rattle.st_counts.proofs.Sums.{some_more}
 
 some_hand : (u : View) (c : ℕ) (P : Waiter → Type 0) → InHand u c P → u.hand ≢ []
@@ -43,3 +49,7 @@ careful_spares m u (CellChange c old new) careful item = ⊎_elim
     (λ k. ⊎_elim (λ j. inr (some_hand u j.0 _ j.5)) (λ d. inl (item d)) k.1) careful.changes
 careful_spares m u (ActiveAdd false) careful item = careful.lowers
 careful_spares m u s careful item = tt
+
+-- a careful step keeps the count
+pub careful_kept : (m : Meaning) (x : World) (w : ℕ) (s : Step) (a : Answer) (v : View) → Counts x → w < x.workers → Can (x.view w) s → Careful m (x.view w) s → IsItem (x.view w) s → IsWeighed x (x.view w) s → Finds x w s a → Does (x.view w) s a v → NoneBegun (x.view w) v.threads → Counts (world_after x w s a v)
+careful_kept m x w s a v C less can careful item weighed f d n = step_kept x w s a v C less can (careful_spares m (x.view w) s careful item) weighed f d n

@@ -1,15 +1,18 @@
 -- What follows from the active count: told_laws and none_laws.
-use Rattle.std.proofs.Common.{◌≡◌, ℕ, ◌+◌, ◌≤◌, ◌<◌, Bool, true, false, [], length, None, refl, sym, ◌∙◌, subst, arith, ◌==◌, ◌&&◌}
+use Rattle.std.proofs.Common.{◌≡◌, ℕ, ◌+◌, ◌≤◌, ◌<◌, Bool, true, false, [], length, None, refl, sym, ◌∙◌, subst, arith, ◌==◌, ◌&&◌, Option, Some, ap}
 use Rattle.st_words.specs.declared.view.CellWord.{CellWord}
 use Rattle.st_words.specs.declared.view.CellWord.TheVariants.{Owner, State, Value, Next, Standing, Trap}
 use Rattle.st_words.specs.declared.view.Slot.TheVariants.{Cell, Mail}
+use Rattle.st_base.specs.declared.chain.Chain.{Chain}
+use Rattle.st_words.specs.declared.view.Slot.{Slot}
+use Rattle.st_words.specs.declared.view.Cargo.{Cargo}
 use Rattle.st_words.specs.declared.view.View.{View}
 use Rattle.st_words.specs.Encodings.{ready}
-use Rattle.st_words.specs.Steps.{Step, StackStore, Mark, CellStore, CellChange, Draw, ActiveAdd, StopSet, RootTake, RequestChange, MailStore, OutStore, SlotTake, SlotPut, Answer, Number, Can, some_thread}
+use Rattle.st_words.specs.Steps.{Step, StackStore, Mark, CellStore, CellChange, Draw, ActiveAdd, StopSet, RootTake, RequestChange, MailStore, OutStore, SlotTake, SlotPut, Answer, Number, Can, some_thread, Took}
 use Rattle.st_words.specs.Views.{in_hand}
-use Rattle.st_world.specs.World.{World, with_word, waking, woken, world_after}
+use Rattle.st_world.specs.World.{World, with_word, waking, woken, world_after, Finds}
 use Rattle.st_world.proofs.Functions.{total_none}
-use Rattle.st_counts.specs.Counting.{units, Counts}
+use Rattle.st_counts.specs.Counting.{units, filling, Counts}
 use Rattle.st_counts.specs.Laws.{ToldLaws, NoneLaws}
 use Rattle.st_counts.proofs.Sums.{filling_none, none_or, some_thread_none, length_none}
 use Rattle.st_counts.proofs.Changes.{active_most, share_within, one_more_is, one_less_is}
@@ -20,10 +23,31 @@ most x C = active_most x.workers x.cells x.active x.home x.home_cargo x.post x.p
 within : (x : World) (w : ℕ) → Counts x → w < x.workers → (x.view w).share ≤ x.active
 within x w C l = share_within x.workers x.cells x.active x.home x.home_cargo x.post x.post_cargo x.view C w l
 
+light_slot : (x : World) (w : ℕ) (slot : Slot) (chain : Option Chain) (cargo : Cargo) → Counts x → Finds x w (SlotTake slot) (Took chain cargo) → cargo.unit ≤ filling chain
+light_slot x w (Cell c) chain cargo C f =
+    let a = C.homes c in
+    let b : cargo.unit ≡ (x.home_cargo c).unit = ap (λ (k : Cargo). k.unit) f.1 in
+    let e : filling chain ≡ filling (x.home c) = ap filling f.0 in
+    omega (arith, a, b, e)
+light_slot x w (Mail at) chain cargo C f =
+    let a = C.posts at in
+    let b : cargo.unit ≡ (x.post_cargo at).unit = ap (λ (k : Cargo). k.unit) f.1 in
+    let e : filling chain ≡ filling (x.post at) = ap filling f.0 in
+    omega (arith, a, b, e)
+
+mailed_unit : (x : World) (w at : ℕ) (chain : Chain) (cargo : Cargo) → Counts x → Finds x w (SlotTake (Mail at)) (Took (Some chain) cargo) → cargo.unit ≡ 1
+mailed_unit x w at chain cargo C f =
+    let a = C.posts at in
+    let b : cargo.unit ≡ (x.post_cargo at).unit = ap (λ (k : Cargo). k.unit) f.1 in
+    let e : 1 ≡ filling (x.post at) = ap filling f.0 in
+    omega (arith, a, b, e)
+
 pub told_laws : ToldLaws
 told_laws = record {
   adds = λ x w up n C l f. subst (λ (k : ℕ). (x.view w).share ≤ k) (sym f) (within x w C l);
   loads = λ x w n C l f. (subst (λ (k : ℕ). (x.view w).share ≤ k) (sym f) (within x w C l), λ i. f ∙ C.inactive w i);
+  light = light_slot;
+  mailed = mailed_unit;
   within = λ x C. let m = most x C in omega (arith, m);
   rises = λ x C. let m = most x C in one_more_is x.active (omega (arith, m));
   falls = λ x w C l one. let m = most x C in let s = within x w C l in one_less_is x.active (omega (arith, s, one)) (omega (arith, m));

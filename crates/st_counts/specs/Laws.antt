@@ -1,6 +1,7 @@
 -- The laws of the active count, over worlds. Read Kept (each kind of step of a worker keeps it, whatever is answered), MoveLaws (so does what a worker does
 -- between steps), ToldLaws (what follows for the answers of steps and for each view) and NoneLaws (what it means that nothing is active).
-use Rattle.std.specs.Prelude.{◌≡◌, ◌≢◌, ◌⊎◌, ℕ, ◌+◌, ◌/◌, ◌^◌, ◌≤◌, ◌<◌, true, false, Bool, List, [], None}
+use Rattle.std.specs.Prelude.{◌≡◌, ◌≢◌, ◌⊎◌, ℕ, ◌+◌, ◌/◌, ◌^◌, ◌≤◌, ◌<◌, true, false, Bool, List, [], None, Option, Some}
+use Rattle.st_base.specs.declared.chain.Chain.{Chain}
 use Rattle.st_base.specs.declared.chain.Frame.{Frame}
 use Rattle.st_base.specs.declared.chain.Waiting.{Waiting}
 use Rattle.st_base.specs.declared.limits.Limits.{Limits}
@@ -10,9 +11,10 @@ use Rattle.st_words.specs.declared.view.Slot.{Slot}
 use Rattle.st_words.specs.declared.view.Slot.TheVariants.{Cell, Mail}
 use Rattle.st_words.specs.declared.view.Known.{Known}
 use Rattle.st_words.specs.declared.view.Carried.{Carried}
+use Rattle.st_words.specs.declared.view.Cargo.{Cargo}
 use Rattle.st_words.specs.declared.view.View.{View}
 use Rattle.st_words.specs.Encodings.{ready}
-use Rattle.st_words.specs.Steps.{Step, CellStore, CellChange, ActiveAdd, ActiveLoad, SlotTake, SlotPut, Answer, Number, Can, HasInHand, IsDone, some_thread, taken_share}
+use Rattle.st_words.specs.Steps.{Step, CellStore, CellChange, ActiveAdd, ActiveLoad, SlotTake, SlotPut, Answer, Number, Took, Can, HasInHand, IsDone, some_thread, taken_share}
 use Rattle.st_words.specs.Views.{Progress, with_progress, without_waiter, Does}
 use Rattle.st_words.specs.Plain.{first_words, first_cargoes, first_views, added}
 use Rattle.st_words.specs.Promises.{Promises, IsActive}
@@ -21,7 +23,7 @@ use Rattle.st_words.specs.Moves.{suspending, giving, restarting, beginning, expo
 use Rattle.st_words.specs.Shares.{Covered}
 use Rattle.st_world.specs.World.{World, slot_of, seen, Finds, world_after}
 use Rattle.st_world.specs.OfPlain.{world_of}
-use Rattle.st_counts.specs.Counting.{Counts}
+use Rattle.st_counts.specs.Counting.{filling, Counts}
 
 -- ---- what a step has to keep
 
@@ -76,6 +78,9 @@ pub record MoveLaws : Type 0 where
 pub record ToldLaws : Type 0 where
   pub adds : (x : World) (w : ℕ) (up : Bool) (n : ℕ) → Counts x → w < x.workers → Finds x w (ActiveAdd up) (Number n) → Promises (x.view w) (ActiveAdd up) (Number n)
   pub loads : (x : World) (w n : ℕ) → Counts x → w < x.workers → Finds x w ActiveLoad (Number n) → Promises (x.view w) ActiveLoad (Number n)
+  -- what goes with a chain that is taken is at most one unit, none where no chain is, and one where it was in mail
+  pub light : (x : World) (w : ℕ) (slot : Slot) (chain : Option Chain) (cargo : Cargo) → Counts x → Finds x w (SlotTake slot) (Took chain cargo) → cargo.unit ≤ filling chain
+  pub mailed : (x : World) (w at : ℕ) (chain : Chain) (cargo : Cargo) → Counts x → Finds x w (SlotTake (Mail at)) (Took (Some chain) cargo) → cargo.unit ≡ 1
   -- the count doesn't wrap
   pub within : (x : World) → Counts x → x.active < 2 ^ 64
   pub rises : (x : World) → Counts x → added true x.active ≡ x.active + 1
