@@ -1,0 +1,4 @@
+pub mod Items
+pub mod Moves
+pub mod Events
+pub mod Laws
