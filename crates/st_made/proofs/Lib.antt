@@ -1,1 +1,3 @@
 pub mod Making
+pub mod Lists
+pub mod Running

@@ -2,3 +2,4 @@ pub mod Items
 pub mod Moves
 pub mod Events
 pub mod Laws
+pub mod Runs
