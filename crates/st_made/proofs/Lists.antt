@@ -1,5 +1,5 @@
 -- How often a path is in a list of threads: times_here, times_there, times_back, and known_here and known_of_path for the threads themselves.
-use Rattle.std.proofs.Common.{◌≡◌, ◌≢◌, ◌⊎◌, inl, inr, ⊎_elim, ℕ, ◌+◌, ◌≤◌, Bool, true, false, cond, List, [], ◌∷◌, ◌++◌, refl, sym, ap, ◌∙◌, subst, arith}
+use Rattle.std.proofs.Common.{◌≡◌, ◌≢◌, ⊎_elim, ◌+◌, ◌≤◌, true, cond, List, [], ◌∷◌, ◌++◌, sym, ap, subst, arith}
 use Rattle.std.specs.List.{Contains}
 use Rattle.std.specs.Str.{bytes_eq}
 use Rattle.st_words.specs.declared.view.Known.{Known}
@@ -29,11 +29,11 @@ times_front p q xs ys le = ⊎_elim
 pub times_swap : (p q r : Path) (xs : List Path) → steps_of p (q ∷ r ∷ xs) ≤ steps_of p (r ∷ q ∷ xs)
 times_swap p q r xs = ⊎_elim
     (λ (e : p ≡ q). let a = times_here p q (r ∷ xs) e in let b = times_here p q xs e in ⊎_elim
-      (λ (f : p ≡ r). let c = times_here p r xs f in let d = times_here p r (q ∷ xs) f in omega arith)
-      (λ (n : p ≢ r). let c = times_there p r xs n in let d = times_there p r (q ∷ xs) n in omega arith) (decide p r))
+    (λ (f : p ≡ r). let c = times_here p r xs f in let d = times_here p r (q ∷ xs) f in omega arith)
+    (λ (n : p ≢ r). let c = times_there p r xs n in let d = times_there p r (q ∷ xs) n in omega arith) (decide p r))
     (λ (m : p ≢ q). let a = times_there p q (r ∷ xs) m in let b = times_there p q xs m in ⊎_elim
-      (λ (f : p ≡ r). let c = times_here p r xs f in let d = times_here p r (q ∷ xs) f in omega arith)
-      (λ (n : p ≢ r). let c = times_there p r xs n in let d = times_there p r (q ∷ xs) n in omega arith) (decide p r)) (decide p q)
+    (λ (f : p ≡ r). let c = times_here p r xs f in let d = times_here p r (q ∷ xs) f in omega arith)
+    (λ (n : p ≢ r). let c = times_there p r xs n in let d = times_there p r (q ∷ xs) n in omega arith) (decide p r)) (decide p q)
 
 -- a thread from the front to a place further back
 pub times_back : (p : Path) (t : Known) (xs ys : List Known) → steps_of p (paths_of (xs ++ t ∷ ys)) ≤ steps_of p (paths_of (t ∷ (xs ++ ys)))
@@ -49,8 +49,8 @@ known_here [] t m = absurd (contains_none t m)
 known_here (u ∷ ts) t m = ⊎_elim
     (λ (e : u ≡ t). let x = times_here t.path u.path (paths_of ts) (sym (ap (λ (y : Known). y.path) e)) in omega arith)
     (λ (n : Contains ts t). let more = known_here ts t n in
-      ⊎_elim (λ (e : t.path ≡ u.path). let x = times_here t.path u.path (paths_of ts) e in omega arith)
-      (λ (ne : t.path ≢ u.path). let x = times_there t.path u.path (paths_of ts) ne in omega arith) (decide t.path u.path)) (contains_case t u ts m)
+    ⊎_elim (λ (e : t.path ≡ u.path). let x = times_here t.path u.path (paths_of ts) e in omega arith)
+    (λ (ne : t.path ≢ u.path). let x = times_there t.path u.path (paths_of ts) ne in omega arith) (decide t.path u.path)) (contains_case t u ts m)
 
 -- a path that counts is of a thread of the list
 pub known_of_path : (ts : List Known) (p : Path) → 1 ≤ steps_of p (paths_of ts) → (t : Known) × Contains ts t × (t.path ≡ p)

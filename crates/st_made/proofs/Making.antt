@@ -1,11 +1,10 @@
 -- What is made is free (made_is_free), goes on (made_follows), and leaves what was seen (made_stays): each of one move, then of a list of them.
-use Rattle.std.proofs.Common.{◌≡◌, ◌⊎◌, inl, inr, ℕ, List, [], ◌∷◌, ◌++◌, refl, sym, ap, ◌∙◌, subst}
+use Rattle.std.proofs.Common.{◌≡◌, inl, inr, List, [], ◌∷◌, ◌++◌, refl, sym, ap, ◌∙◌, subst}
 use Rattle.st_words.specs.declared.view.View.{View}
-use Rattle.st_words.specs.Views.{IsFree, with_free, Free, Progress}
-use Rattle.st_words.specs.Moves.{suspending, giving, restarting, beginning, exporting}
+use Rattle.st_words.specs.Views.{IsFree, with_free, Free}
 use Rattle.st_model.specs.declared.program.Program.{Program}
 use Rattle.st_model.specs.Memory.{Data}
-use Rattle.st_made.specs.Moves.{OneMove, AllMoves, Made}
+use Rattle.st_made.specs.Moves.{OneMove, AllMoves}
 use Rattle.st_made.specs.Laws.{MadeIsFree, MadeFollows, SeesSame, MadeStays}
 
 abbrev free_of : View → Free
@@ -21,7 +20,7 @@ free_twice v y u a b = (b.0, b.1 ∙ ap (with_free b.0) a.1)
 free_after : (v u x : View) → u ≡ x → x ≡ with_free (free_of x) v → IsFree v u
 free_after v u x e f = (free_of x, e ∙ f)
 
-free_one : (program : Program) (source : Data) (v u : View) → OneMove program source v u → IsFree v u
+pub free_one : (program : Program) (source : Data) (v u : View) → OneMove program source v u → IsFree v u
 free_one program source v u (inl m) = free_after v u _ m.after refl
 free_one program source v u (inr (inl m)) = free_after v u _ m.after refl
 free_one program source v u (inr (inr (inl m))) = free_after v u _ m.after refl
@@ -48,7 +47,7 @@ made_follows program source v y u a b = (a.0 ++ b.0, follow_all program source v
 
 -- ---- what was seen
 
-same_free : (v u : View) (x : Free) → u ≡ with_free x v → SeesSame v u
+pub same_free : (v u : View) (x : Free) → u ≡ with_free x v → SeesSame v u
 same_free v u x e = record {
   number = ap (λ (y : View). y.number) e;
   workers = ap (λ (y : View). y.workers) e;

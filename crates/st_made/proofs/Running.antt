@@ -1,7 +1,7 @@
--- What a worker makes by itself is a run of the heap-frame machine: made_runs, by run_one for one move and run_all for a list of them.
-use Rattle.std.proofs.Common.{◌≡◌, ◌≢◌, ◌⊎◌, inl, inr, ⊎_elim, ℕ, ◌+◌, ◌≤◌, Bool, true, false, cond, not, ◌==◌, List, [], ◌∷◌, ◌++◌, Option, Some, None, refl, sym, ap, ◌∙◌, subst, arith, eq-eqb, ne_eqb}
-use Rattle.std.specs.List.{Contains, filter}
-use Rattle.std.proofs.lemmas.List.{append_assoc}
+-- The threads of a view as the heap-frame machine has them: a step of the first one, which goes on, goes out or forks (goes_on, goes_out, forks), and
+-- lists that are among one another, for the moves without a step (AreAmong, stays_in). What a view has seen stays (seen_on) and is enough (enough).
+use Rattle.std.proofs.Common.{◌≡◌, ◌≢◌, ⊎_elim, ℕ, ◌≤◌, Bool, true, false, cond, not, ◌==◌, List, [], ◌∷◌, ◌++◌, Some, refl, sym, ap, ◌∙◌, subst, arith, eq-eqb, ne_eqb}
+use Rattle.std.specs.List.{Contains}
 use Rattle.std.proofs.lemmas.List.Elements.{Contains-append_left, Contains-append_right, Contains-append_cases}
 use Rattle.std.proofs.lemmas.Bool.{cases_eq}
 use Rattle.st_base.specs.declared.thread.Held.TheVariants.{Future, Counter}
@@ -10,16 +10,14 @@ use Rattle.st_words.specs.declared.view.Known.{Known}
 use Rattle.st_words.specs.declared.view.Carried.{Carried}
 use Rattle.st_words.specs.declared.view.View.{View}
 use Rattle.st_words.specs.Views.{without_chain}
-use Rattle.st_words.specs.Moves.{suspending, giving, restarting, beginning, exporting}
 use Rattle.st_words.proofs.Lists.{contains_here, contains_later, contains_none, contains_case}
 use Rattle.st_model.specs.declared.program.Program.{Program}
 use Rattle.st_model.specs.Memory.{Data}
-use Rattle.st_model.specs.Heap.{Path, Heap, Change, Move, Stays, Moves, Touch, Join, move, Enabled, put, put_child, after, HStep, Run, IsNumbered, steps_of}
+use Rattle.st_model.specs.Heap.{Path, Heap, Change, Move, Stays, Moves, Touch, Join, Enabled, put_child, after, HStep, Run, IsNumbered, steps_of}
 use Rattle.st_laws.proofs.HeapSteps.{decide, put_same, put_other, not_child}
-use Rattle.st_laws.proofs.Staying.{run_is_numbered, ended_stays, counts_grow, other_stays}
+use Rattle.st_laws.proofs.Staying.{ended_stays, counts_grow, other_stays}
 use Rattle.st_made.specs.Items.{SeenEnough, went, born, child_path, next_move}
-use Rattle.st_made.specs.Moves.{OneMove, AllMoves, Made, Begins, MakesItem, MakesFork}
-use Rattle.st_made.specs.Runs.{known_of, all_known, paths_of, AreIn, HasSeen, Onward, MadeRuns}
+use Rattle.st_made.specs.Runs.{known_of, paths_of, AreIn, HasSeen, Onward}
 use Rattle.st_made.proofs.Lists.{times_here, times_there, times_front, times_swap, times_back, later_more, known_here, known_of_path}
 
 -- ---- without a step: the same threads, or fewer
@@ -28,7 +26,7 @@ pub record AreAmong (ts us : List Known) : Type 0 where
   pub times : (q : Path) → steps_of q (paths_of us) ≤ steps_of q (paths_of ts)
   pub each : (t : Known) → Contains us t → (s : Known) × Contains ts s × (s.path ≡ t.path) × (s.thread ≡ t.thread)
 
-among_same : (ts : List Known) → AreAmong ts ts
+pub among_same : (ts : List Known) → AreAmong ts ts
 among_same ts = record { times = λ q. omega arith; each = λ t m. (t, m, refl, refl) }
 
 pub stays_in : (program : Program) (source : Data) (h : Heap) (ts us : List Known) → AreIn h ts → AreAmong ts us → Onward program source h ts us
@@ -126,18 +124,18 @@ forks program source h top ts c child cell numbered is enabled made =
             (contains_case t (born cell (child_path top) child) (went top c.own ∷ ts) m);
         once = λ p. ⊎_elim
             (λ (e : p ≡ child_path top).
-              let a = times_here p (child_path top) (paths_of (went top c.own ∷ ts)) e in
-              ⊎_elim (λ (none : steps_of p (paths_of (top ∷ ts)) ≡ 0). omega arith)
-              (λ (some : steps_of p (paths_of (top ∷ ts)) ≢ 0).
-                let x = known_of_path (top ∷ ts) p (omega arith) in
-                absurd (fresh x.0.path x.0.thread (is.each x.0 x.1) (x.2 ∙ e)))
-              (cases_eq (steps_of p (paths_of (top ∷ ts))) 0))
+            let a = times_here p (child_path top) (paths_of (went top c.own ∷ ts)) e in
+            ⊎_elim (λ (none : steps_of p (paths_of (top ∷ ts)) ≡ 0). omega arith)
+            (λ (some : steps_of p (paths_of (top ∷ ts)) ≢ 0).
+            let x = known_of_path (top ∷ ts) p (omega arith) in
+            absurd (fresh x.0.path x.0.thread (is.each x.0 x.1) (x.2 ∙ e)))
+            (cases_eq (steps_of p (paths_of (top ∷ ts))) 0))
             (λ (n : p ≢ child_path top). let a = times_there p (child_path top) (paths_of (went top c.own ∷ ts)) n in let b = is.once p in omega arith)
             (decide p (child_path top));
       };
       others = λ q t there none. (
         (on.others q t there none).0,
-        let a = times_there q (child_path top) (paths_of (went top c.own ∷ ts)) (fresh q t there) in let b = (on.others q t there none).1 in omega arith
+        let a = times_there q (child_path top) (paths_of (went top c.own ∷ ts)) (fresh q t there) in let b = (on.others q t there none).1 in omega arith,
       );
     }
 
@@ -149,7 +147,7 @@ seen_on program source h h' ps v numbered run seen = record {
   counts = λ q i cell k a b. let x = seen.counts q i cell k a b in let y = counts_grow program source h h' ps q i run in omega arith;
 }
 
-seen_same : (h : Heap) (v u : View) → u.names ≡ v.names → u.values ≡ v.values → u.counts ≡ v.counts → HasSeen h v → HasSeen h u
+pub seen_same : (h : Heap) (v u : View) → u.names ≡ v.names → u.values ≡ v.values → u.counts ≡ v.counts → HasSeen h v → HasSeen h u
 seen_same h v u names values counts seen = record {
   values = λ q cell n a b. seen.values q cell n (subst (λ l. Contains l (Future q, cell)) names a) (subst (λ l. Contains l (cell, n)) values b);
   counts = λ q i cell k a b. seen.counts q i cell k (subst (λ l. Contains l (Counter q i, cell)) names a) (subst (λ l. Contains l (cell, k)) counts b);
@@ -164,19 +162,19 @@ enough h v (Join q i least d) c seen e = let a = seen.counts q i e.0 e.1 e.2 e.3
 
 -- ---- the moves without an item
 
-suspended_among : (top : Known) (rest ks : List Known) → AreAmong ((top ∷ rest) ++ ks) (rest ++ top ∷ ks)
+pub suspended_among : (top : Known) (rest ks : List Known) → AreAmong ((top ∷ rest) ++ ks) (rest ++ top ∷ ks)
 suspended_among top rest ks = record {
   times = λ q. times_back q top rest ks;
   each = λ t m. ⊎_elim
       (λ (a : Contains rest t). (t, contains_later t top (rest ++ ks) (Contains-append_left rest ks t a), refl, refl))
       (λ (b : Contains (top ∷ ks) t). ⊎_elim
-        (λ (e : top ≡ t). (t, subst (λ x. Contains (top ∷ (rest ++ ks)) x) e (contains_here top (rest ++ ks)), refl, refl))
-        (λ (n : Contains ks t). (t, contains_later t top (rest ++ ks) (Contains-append_right rest ks t n), refl, refl))
-        (contains_case t top ks b))
+      (λ (e : top ≡ t). (t, subst (λ x. Contains (top ∷ (rest ++ ks)) x) e (contains_here top (rest ++ ks)), refl, refl))
+      (λ (n : Contains ks t). (t, contains_later t top (rest ++ ks) (Contains-append_right rest ks t n), refl, refl))
+      (contains_case t top ks b))
       (Contains-append_cases rest (top ∷ ks) t m);
 }
 
-begun_among : (top : Known) (rest : List Known) → AreAmong (top ∷ rest) (record top { begun = true } ∷ rest)
+pub begun_among : (top : Known) (rest : List Known) → AreAmong (top ∷ rest) (record top { begun = true } ∷ rest)
 begun_among top rest = record {
   times = λ q. omega arith;
   each = λ t m. ⊎_elim
@@ -206,14 +204,14 @@ without_fewer c q (y ∷ ys) =
     let more = without_fewer c q ys in
     ⊎_elim
     (λ (e : y.known.note.cell ≡ c).
-      let a : steps_of q (paths_of (known_of (without_chain c (y ∷ ys)))) ≡ steps_of q (paths_of (known_of (without_chain c ys))) = ap (λ l. steps_of q (paths_of (known_of l))) (without_is c y ys false (ap not (eq-eqb y.known.note.cell c e))) in
-      let b = times_front q y.known.path [] (paths_of (known_of ys)) (omega arith) in
-      let d : steps_of q (paths_of (known_of ys)) ≤ steps_of q (paths_of (known_of (y ∷ ys))) = later_more q y.known.path (paths_of (known_of ys)) in
-      omega arith)
+    let a : steps_of q (paths_of (known_of (without_chain c (y ∷ ys)))) ≡ steps_of q (paths_of (known_of (without_chain c ys))) = ap (λ l. steps_of q (paths_of (known_of l))) (without_is c y ys false (ap not (eq-eqb y.known.note.cell c e))) in
+    let b = times_front q y.known.path [] (paths_of (known_of ys)) (omega arith) in
+    let d : steps_of q (paths_of (known_of ys)) ≤ steps_of q (paths_of (known_of (y ∷ ys))) = later_more q y.known.path (paths_of (known_of ys)) in
+    omega arith)
     (λ (n : y.known.note.cell ≢ c).
-      let a : steps_of q (paths_of (known_of (without_chain c (y ∷ ys)))) ≡ steps_of q (paths_of (known_of (y ∷ without_chain c ys))) = ap (λ l. steps_of q (paths_of (known_of l))) (without_is c y ys true (ap not (ne_eqb y.known.note.cell c n))) in
-      let b = times_front q y.known.path (paths_of (known_of (without_chain c ys))) (paths_of (known_of ys)) more in
-      omega arith)
+    let a : steps_of q (paths_of (known_of (without_chain c (y ∷ ys)))) ≡ steps_of q (paths_of (known_of (y ∷ without_chain c ys))) = ap (λ l. steps_of q (paths_of (known_of l))) (without_is c y ys true (ap not (ne_eqb y.known.note.cell c n))) in
+    let b = times_front q y.known.path (paths_of (known_of (without_chain c ys))) (paths_of (known_of ys)) more in
+    omega arith)
     (cases_eq y.known.note.cell c)
 
 restarted_fewer : (q : Path) (x : Carried) (xs : List Carried) → Contains xs x → steps_of q (paths_of (x.known ∷ known_of (without_chain x.known.note.cell xs))) ≤ steps_of q (paths_of (known_of xs))
@@ -222,38 +220,38 @@ restarted_fewer q x (y ∷ ys) m =
     let c = x.known.note.cell in
     ⊎_elim
     (λ (e : y ≡ x).
-      let cell : y.known.note.cell ≡ c = ap (λ (z : Carried). z.known.note.cell) e in
-      let a : steps_of q (paths_of (x.known ∷ known_of (without_chain c (y ∷ ys)))) ≡ steps_of q (paths_of (x.known ∷ known_of (without_chain c ys))) = ap (λ l. steps_of q (paths_of (x.known ∷ known_of l))) (without_is c y ys false (ap not (eq-eqb y.known.note.cell c cell))) in
-      let b = times_front q x.known.path (paths_of (known_of (without_chain c ys))) (paths_of (known_of ys)) (without_fewer c q ys) in
-      let d : steps_of q (paths_of (x.known ∷ known_of ys)) ≡ steps_of q (paths_of (known_of (y ∷ ys))) = ap (λ (z : Carried). steps_of q (z.known.path ∷ paths_of (known_of ys))) (sym e) in
-      omega arith)
+    let cell : y.known.note.cell ≡ c = ap (λ (z : Carried). z.known.note.cell) e in
+    let a : steps_of q (paths_of (x.known ∷ known_of (without_chain c (y ∷ ys)))) ≡ steps_of q (paths_of (x.known ∷ known_of (without_chain c ys))) = ap (λ l. steps_of q (paths_of (x.known ∷ known_of l))) (without_is c y ys false (ap not (eq-eqb y.known.note.cell c cell))) in
+    let b = times_front q x.known.path (paths_of (known_of (without_chain c ys))) (paths_of (known_of ys)) (without_fewer c q ys) in
+    let d : steps_of q (paths_of (x.known ∷ known_of ys)) ≡ steps_of q (paths_of (known_of (y ∷ ys))) = ap (λ (z : Carried). steps_of q (z.known.path ∷ paths_of (known_of ys))) (sym e) in
+    omega arith)
     (λ (n : Contains ys x).
-      let more = restarted_fewer q x ys n in
-      ⊎_elim
-      (λ (e : y.known.note.cell ≡ c).
-        let a : steps_of q (paths_of (x.known ∷ known_of (without_chain c (y ∷ ys)))) ≡ steps_of q (paths_of (x.known ∷ known_of (without_chain c ys))) = ap (λ l. steps_of q (paths_of (x.known ∷ known_of l))) (without_is c y ys false (ap not (eq-eqb y.known.note.cell c e))) in
-        let d = later_more q y.known.path (paths_of (known_of ys)) in
-        omega arith)
-      (λ (ne : y.known.note.cell ≢ c).
-        let a : steps_of q (paths_of (x.known ∷ known_of (without_chain c (y ∷ ys)))) ≡ steps_of q (paths_of (x.known ∷ y.known ∷ known_of (without_chain c ys))) = ap (λ l. steps_of q (paths_of (x.known ∷ known_of l))) (without_is c y ys true (ap not (ne_eqb y.known.note.cell c ne))) in
-        let b = times_swap q x.known.path y.known.path (paths_of (known_of (without_chain c ys))) in
-        let d = times_front q y.known.path (paths_of (x.known ∷ known_of (without_chain c ys))) (paths_of (known_of ys)) more in
-        omega arith)
-      (cases_eq y.known.note.cell c))
+    let more = restarted_fewer q x ys n in
+    ⊎_elim
+    (λ (e : y.known.note.cell ≡ c).
+    let a : steps_of q (paths_of (x.known ∷ known_of (without_chain c (y ∷ ys)))) ≡ steps_of q (paths_of (x.known ∷ known_of (without_chain c ys))) = ap (λ l. steps_of q (paths_of (x.known ∷ known_of l))) (without_is c y ys false (ap not (eq-eqb y.known.note.cell c e))) in
+    let d = later_more q y.known.path (paths_of (known_of ys)) in
+    omega arith)
+    (λ (ne : y.known.note.cell ≢ c).
+    let a : steps_of q (paths_of (x.known ∷ known_of (without_chain c (y ∷ ys)))) ≡ steps_of q (paths_of (x.known ∷ y.known ∷ known_of (without_chain c ys))) = ap (λ l. steps_of q (paths_of (x.known ∷ known_of l))) (without_is c y ys true (ap not (ne_eqb y.known.note.cell c ne))) in
+    let b = times_swap q x.known.path y.known.path (paths_of (known_of (without_chain c ys))) in
+    let d = times_front q y.known.path (paths_of (x.known ∷ known_of (without_chain c ys))) (paths_of (known_of ys)) more in
+    omega arith)
+    (cases_eq y.known.note.cell c))
     (contains_case x y ys m)
 
 known_left : (c : ℕ) (t : Known) (xs : List Carried) → Contains (known_of (without_chain c xs)) t → Contains (known_of xs) t
 known_left c t [] m = m
 known_left c t (y ∷ ys) m = ⊎_elim
     (λ (e : y.known.note.cell ≡ c).
-      contains_later t y.known (known_of ys) (known_left c t ys (subst (λ l. Contains (known_of l) t) (without_is c y ys false (ap not (eq-eqb y.known.note.cell c e))) m)))
+    contains_later t y.known (known_of ys) (known_left c t ys (subst (λ l. Contains (known_of l) t) (without_is c y ys false (ap not (eq-eqb y.known.note.cell c e))) m)))
     (λ (n : y.known.note.cell ≢ c). ⊎_elim
-      (λ (e : y.known ≡ t). subst (λ z. Contains (known_of (y ∷ ys)) z) e (contains_here y.known (known_of ys)))
-      (λ (k : Contains (known_of (without_chain c ys)) t). contains_later t y.known (known_of ys) (known_left c t ys k))
-      (contains_case t y.known (known_of (without_chain c ys)) (subst (λ l. Contains (known_of l) t) (without_is c y ys true (ap not (ne_eqb y.known.note.cell c n))) m)))
+    (λ (e : y.known ≡ t). subst (λ z. Contains (known_of (y ∷ ys)) z) e (contains_here y.known (known_of ys)))
+    (λ (k : Contains (known_of (without_chain c ys)) t). contains_later t y.known (known_of ys) (known_left c t ys k))
+    (contains_case t y.known (known_of (without_chain c ys)) (subst (λ l. Contains (known_of l) t) (without_is c y ys true (ap not (ne_eqb y.known.note.cell c n))) m)))
     (cases_eq y.known.note.cell c)
 
-restarted_among : (x : Carried) (xs : List Carried) → Contains xs x → AreAmong (known_of xs) (x.known ∷ known_of (without_chain x.known.note.cell xs))
+pub restarted_among : (x : Carried) (xs : List Carried) → Contains xs x → AreAmong (known_of xs) (x.known ∷ known_of (without_chain x.known.note.cell xs))
 restarted_among x xs m = record {
   times = λ q. restarted_fewer q x xs m;
   each = λ t k. ⊎_elim

@@ -8,7 +8,7 @@ use Rattle.st_words.specs.declared.view.CellWord.TheVariants.{Owner}
 use Rattle.st_words.specs.declared.view.Known.{Known}
 use Rattle.st_words.specs.declared.view.View.{View}
 use Rattle.st_words.specs.Encodings.{counter_owner, full_word, head_in, is_counter, printed as printed_word}
-use Rattle.st_words.specs.Steps.{Step, CellStore, CellChange, OutStore, Answer, Done, Number}
+use Rattle.st_words.specs.Steps.{Step, CellStore, CellChange, OutStore, Answer, Number}
 use Rattle.st_words.specs.Views.{owner_seen, counts_cell}
 use Rattle.st_model.specs.declared.program.Program.{Program}
 use Rattle.st_model.specs.Memory.{Data}

@@ -1,7 +1,7 @@
 -- The items of the heap-frame machine as a worker's view tells them. Read next_move (what a thread of a view would do next), SeenEnough (what the view has
 -- seen lets the item be made), IsPrivate (the item changes its own thread alone), went and born (a thread after its item, a child), WaitsAt (where a
 -- thread waits or has stopped), and MeansItems (a Meaning whose clauses on items are those of the machine).
-use Rattle.std.specs.Prelude.{◌≡◌, ◌≢◌, ◌⊎◌, ℕ, ◌+◌, ◌≤◌, true, false, List, [], ◌∷◌, ◌++◌, Option, Some, None}
+use Rattle.std.specs.Prelude.{◌≡◌, ◌≢◌, ◌⊎◌, ℕ, ◌≤◌, false, [], ◌∷◌, ◌++◌, None}
 use Rattle.std.specs.List.{Contains}
 use Rattle.st_base.specs.declared.chain.Waiting.{Waiting}
 use Rattle.st_base.specs.declared.chain.Waiting.TheVariants as waits

@@ -2,7 +2,8 @@
 //!
 //! - `Made` (`specs/Moves.antt`): a view is brought forward by single moves.
 //! - `Event` (`specs/Events.antt`): the item that a step makes, or none.
-//! - `laws`: what is so of all that is made.
+//! - `AreIn` and `HasSeen` (`specs/Runs.antt`): the heap of the machine has the threads of a view, and what the view has seen.
+//! - `laws`: what is made is a run of the machine, and so is the item that goes with a step; what no move changes; which item goes with which step.
 //!
 //! An empty body has nothing that an edit could turn wrong, so there are no must-fail edits here.
 #![tactic(auto)]
