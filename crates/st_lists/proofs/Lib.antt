@@ -8,3 +8,7 @@ pub mod Handing
 pub mod Nexts
 pub mod Follows
 pub mod Fills
+pub mod ViewsAfter
+pub mod Wholes
+pub mod InHands
+pub mod Words

@@ -1,11 +1,13 @@
--- Where the number of each thread that doesn't run is. Read Spot, and Listing: the Next words spell the waiter lists, and the hands and the ready
--- numbers are as the views tell.
-use Rattle.std.specs.Prelude.{◌≡◌, ◌≢◌, ◌⊎◌, ℕ, suc, ◌<◌, Bool, true, false, List, [], ◌∷◌, length, Option, Some, ◌==◌, if◌then◌else◌}
+-- Where the number of each thread that doesn't run is. Read Spot, Listing (the Next words spell the waiter lists, and the hands and the ready numbers
+-- are as the views tell), Rooting (who may take the root's chain), and Lists, which is of a world.
+use Rattle.std.specs.Prelude.{◌≡◌, ◌≢◌, ◌⊎◌, ℕ, suc, ◌≤◌, ◌<◌, Bool, true, false, List, [], ◌∷◌, length, Option, Some, None, ◌==◌, if◌then◌else◌}
 use Rattle.std.specs.List.{Contains}
 use Rattle.st_base.specs.declared.chain.Waiting.{Waiting}
 use Rattle.st_base.specs.declared.chain.Waiting.TheVariants as waits
 use Rattle.st_words.specs.declared.view.Waiter.{Waiter}
-use Rattle.st_words.specs.Encodings.{full_word, count_in, head_in}
+use Rattle.st_words.specs.declared.view.View.{View}
+use Rattle.st_words.specs.Encodings.{full_word, count_in, head_in, is_counter}
+use Rattle.st_world.specs.World.{World}
 
 -- where the number of a thread is
 pub data Spot : Type 0 where
@@ -87,3 +89,38 @@ module _ (workers : ℕ) (spot : ℕ → Spot) (wait : ℕ → Waiting) (next : 
     pub hands : (w : ℕ) → HandHolds w (hand w)
     pub behind : (d w c k : ℕ) → spot d ≡ Behind w c k → (spot c ≡ Held w) × Alike (wait c) (wait d)
     pub readies : (w : ℕ) → ReadyHolds w (ready w)
+
+-- the Root word, and who found it 1
+pub record Rooting (spot : ℕ → Spot) (root : ℕ) (found : ℕ → Bool) : Type 0 where
+  pub untaken : root ≡ 1 → spot 0 ≡ Rooted None
+  pub taken : spot 0 ≡ Rooted None → root ≡ 1
+  pub finder : (w : ℕ) → found w ≡ true → spot 0 ≡ Rooted (Some w)
+  pub finds : (w : ℕ) → spot 0 ≡ Rooted (Some w) → found w ≡ true
+
+-- ---- worlds
+
+-- the parts of the views that are read, and which cells are of counters
+abbrev pub hands : (ℕ → View) → ℕ → List Waiter
+hands views w = (views w).hand
+
+abbrev pub readies : (ℕ → View) → ℕ → List ℕ
+readies views w = (views w).ready
+
+abbrev pub finders : (ℕ → View) → ℕ → Bool
+finders views w = (views w).root
+
+abbrev pub counters : (ℕ → ℕ) → ℕ → Bool
+counters owner c = is_counter (owner c)
+
+-- a head in a State word of a counter has 17 bits, so there are few cells
+pub record Numbers (workers cells : ℕ) (owner state next : ℕ → ℕ) (root : ℕ) (view : ℕ → View) : Type 0 where
+  pub spot : ℕ → Spot
+  pub wait : ℕ → Waiting
+  pub few : cells ≤ 65536
+  pub below : (d : ℕ) → spot d ≢ Nowhere → d < cells
+  pub sized : (w : ℕ) → w < workers → (view w).cells ≡ cells
+  pub listing : Listing workers spot wait next (counters owner) state (hands view) (readies view)
+  pub rooting : Rooting spot root (finders view)
+
+abbrev pub Lists : World → Type 0
+Lists x = Numbers x.workers x.cells x.owner x.state x.next x.root x.view
