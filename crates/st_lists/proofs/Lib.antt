@@ -12,3 +12,4 @@ pub mod ViewsAfter
 pub mod Wholes
 pub mod InHands
 pub mod Words
+pub mod States
