@@ -13,3 +13,4 @@ pub mod Wholes
 pub mod InHands
 pub mod Words
 pub mod States
+pub mod Moves
