@@ -14,3 +14,4 @@ pub mod InHands
 pub mod Words
 pub mod States
 pub mod Moves
+pub mod Tidies

@@ -1,5 +1,5 @@
--- The laws of numbers and lists, over worlds. Read Kept (each kind of step of a worker keeps them, whatever is answered), MoveLaws (so does what a
--- worker does between steps), ViewLaws (what is always so of a view) and ToldLaws (what loads of Next and State words promise).
+-- The laws of numbers and lists, over worlds. Read MoveLaws (what a worker does between steps keeps them) and ViewLaws (what is always so of a view).
+-- Tends is what a careful step keeps of the lists, and IsKnown what others know of it.
 use Rattle.std.specs.Prelude.{◌≡◌, ◌≢◌, ◌⊎◌, ℕ, ◌+◌, ◌<◌, ◌≤◌, true, false, List, Some}
 use Rattle.std.specs.List.{Contains}
 use Rattle.st_base.specs.declared.chain.Frame.{Frame}
@@ -56,10 +56,6 @@ IsKnown x l w s = Prim.Unit
 
 -- ---- laws
 
--- each kind of step keeps them, whatever is answered
-abbrev pub Kept : Type 0
-Kept = (x : World) (w : ℕ) (s : Step) (a : Answer) (v : View) (l : Lists x) → w < x.workers → Can (x.view w) s → Tends (x.view w) s → IsKnown x l w s → Finds x w s a → Does (x.view w) s a v → Lists (world_after x w s a v)
-
 -- what a worker does by itself changes nothing that is read
 pub record MoveLaws : Type 0 where
   pub progresses : (x : World) (w : ℕ) (progress : Progress) → Lists x → Lists (seen w (with_progress progress (x.view w)) x)
@@ -82,10 +78,3 @@ pub record ViewLaws : Type 0 where
   pub below : (x : World) (w c : ℕ) → Lists x → w < x.workers → HasInHand (x.view w) c ⊎ Contains (x.view w).ready c → c < (x.view w).cells
   -- a Next word is stored only after what was behind the waiter is known
   pub linked : (x : World) (w : ℕ) (y : Waiter) (n : ℕ) → Lists x → Contains (x.view w).hand y → y.next ≡ Some n → y.leads ≡ false
-
-pub record ToldLaws : Type 0 where
-  -- what is behind a waiter that leads is a number below the number of cells
-  pub nexts : (x : World) (w c n : ℕ) → Lists x → w < x.workers → Finds x w (CellLoad c Next) (Number n) → NextIs (x.view w) c n
-  -- so are the heads of the lists
-  pub futures : (x : World) (w c n : ℕ) → Lists x → w < x.workers → is_counter (x.owner c) ≡ false → Finds x w (CellLoad c State) (Number n) → (n ≡ full_word) ⊎ (n ≤ (x.view w).cells)
-  pub counters : (x : World) (w c n : ℕ) → Lists x → w < x.workers → is_counter (x.owner c) ≡ true → Finds x w (CellLoad c State) (Number n) → head_in n ≤ (x.view w).cells
