@@ -1,18 +1,18 @@
 -- Changes of a State word: a waiter is parked, or a list is handed out.
-use Rattle.std.proofs.Common.{◌≡◌, ◌≢◌, ◌⊎◌, inl, inr, ⊎_elim, ℕ, zero, suc, ◌+◌, ◌-◌, ◌^◌, ◌≤◌, ◌<◌, Bool, true, false, cond, List, length, Option, Some, None, refl, sym, ap, ◌∙◌, subst, arith, ◌==◌, eq-eqb, ne_eqb}
+use Rattle.std.proofs.Common.{◌≡◌, ◌≢◌, ◌⊎◌, inl, inr, ℕ, zero, suc, ◌+◌, ◌-◌, ◌^◌, ◌<◌, Bool, true, false, cond, List, length, Option, Some, None, refl, sym, ap, ◌∙◌, subst, arith, ◌==◌, eq-eqb, ne_eqb}
 use Rattle.std.specs.List.{Contains}
 use Rattle.st_base.specs.declared.chain.Waiting.{Waiting}
 use Rattle.st_base.specs.declared.chain.Waiting.TheVariants as waits
 use Rattle.st_words.specs.declared.view.Waiter.{Waiter}
 use Rattle.st_words.specs.declared.view.View.{View}
-use Rattle.st_words.specs.Encodings.{is_counter, head_in, count_in, count_after, counter_word, full_word}
+use Rattle.st_words.specs.Encodings.{head_in, count_in, count_after, counter_word, full_word}
 use Rattle.st_words.specs.Steps.{IsFuture, IsCounter, IsDone, MayChange}
 use Rattle.st_words.specs.Views.{Progress, with_progress, followed, without_waiter, changed_by, changed_future, changed_counter, cell_changed, counts_cell, owner_seen}
 use Rattle.st_words.proofs.Lists.{same_true}
 use Rattle.st_world.specs.Functions.{put}
 use Rattle.st_world.specs.World.{World, put_if}
-use Rattle.st_lists.specs.Listing.{Spot, Nowhere, Listed, Held, Rooted, IsOpen, head_by, HandHas, Listing, Lists, hands, readies, finders, counters}
-use Rattle.st_lists.specs.Laws.{ParksThere, JoinsThere, KnowsKind, Tends}
+use Rattle.st_lists.specs.Listing.{Spot, Listed, Held, IsOpen, head_by, Listing, Lists, hands, readies, finders, counters}
+use Rattle.st_lists.specs.Laws.{ParksThere, JoinsThere, KnowsKind}
 use Rattle.st_lists.proofs.Apart.{rooted_listed}
 use Rattle.st_lists.proofs.Lists.{handed}
 use Rattle.st_lists.proofs.Ranks.{listed_in, listed_here, listed_only}

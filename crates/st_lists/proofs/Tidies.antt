@@ -1,9 +1,8 @@
 -- What is always so of a view: view_laws.
-use Rattle.std.proofs.Common.{◌≡◌, ◌≢◌, inl, inr, ⊎_elim, ℕ, ◌<◌, Some, refl, sym, ap, ◌∙◌, subst}
-use Rattle.std.specs.List.{Contains}
+use Rattle.std.proofs.Common.{◌≡◌, ⊎_elim, ℕ, ◌<◌, Some, sym, subst}
 use Rattle.st_words.specs.Steps.{HasInHand}
 use Rattle.st_world.specs.World.{World}
-use Rattle.st_lists.specs.Listing.{Nowhere, Held, Readied, Rooted, Lists}
+use Rattle.st_lists.specs.Listing.{Held, Lists}
 use Rattle.st_lists.specs.Laws.{ViewLaws}
 
 held : (x : World) (w c : ℕ) (G : Lists x) → HasInHand (x.view w) c → G.spot c ≡ Held w

@@ -2,7 +2,6 @@
 use Rattle.std.proofs.Common.{◌≡◌, ℕ, zero, suc, Bool, true, false, List, Option, Some, None, refl, ◌==◌, ◌&&◌, ◌||◌, is_some}
 use Rattle.st_base.specs.declared.chain.Chain.{Chain}
 use Rattle.st_base.specs.declared.chain.Frame.{Frame}
-use Rattle.st_words.specs.declared.view.CellWord.{CellWord}
 use Rattle.st_words.specs.declared.view.CellWord.TheVariants.{Owner, State, Value, Next, Standing, Trap}
 use Rattle.st_words.specs.declared.view.Slot.TheVariants.{Cell, Mail}
 use Rattle.st_words.specs.declared.view.Cargo.{Cargo}

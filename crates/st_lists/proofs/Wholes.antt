@@ -1,6 +1,6 @@
 -- The group anew from its parts, where one view is changed: rebuilt; and what the change of a spot leaves of the root and of the numbers below the
 -- number of cells. quiet_world is for all that changes nothing that is read.
-use Rattle.std.proofs.Common.{◌≡◌, ◌≢◌, ⊎_elim, ℕ, ◌<◌, Bool, true, false, List, Option, Some, None, refl, sym, ap, ◌∙◌, subst}
+use Rattle.std.proofs.Common.{◌≡◌, ◌≢◌, ℕ, ◌<◌, Bool, List, Option, Some, None, refl, sym, ◌∙◌, subst}
 use mathlib.Core.Logic.{dite}
 use native.Mathlib.Decide.{ℕ_discrete}
 use Rattle.st_base.specs.declared.chain.Waiting.{Waiting}

@@ -1,32 +1,29 @@
 -- Steps of the words Owner, Next, Standing and Root, each with the view after it.
-use Rattle.std.proofs.Common.{◌≡◌, ◌≢◌, ◌⊎◌, inl, inr, ⊎_elim, ℕ, zero, suc, ◌<◌, Bool, true, false, List, [], ◌∷◌, Option, Some, None, refl, sym, ap, ◌∙◌, subst, arith, ◌==◌, ◌&&◌, eq-eqb, ne_eqb}
+use Rattle.std.proofs.Common.{◌≡◌, ◌≢◌, ⊎_elim, ℕ, zero, suc, ◌<◌, Bool, true, false, List, [], ◌∷◌, Option, Some, None, refl, sym, ap, ◌∙◌, subst, arith, ◌==◌, eq-eqb, ne_eqb}
 use Rattle.std.specs.List.{Contains}
 use Rattle.std.specs.Int.{from_bool}
 use mathlib.Core.Logic.{dite}
 use native.Mathlib.Decide.{ℕ_discrete}
-use Rattle.st_base.specs.declared.chain.Waiting.{Waiting}
-use Rattle.st_words.specs.declared.view.CellWord.TheVariants.{Owner, Next, Standing}
+use Rattle.st_words.specs.declared.view.CellWord.TheVariants.{Owner, Next}
 use Rattle.st_words.specs.declared.view.Waiter.{Waiter}
 use Rattle.st_words.specs.declared.view.View.{View}
-use Rattle.st_words.specs.Encodings.{is_counter, head_in, full_word, running, ready}
-use Rattle.st_words.specs.Steps.{HasInHand}
-use Rattle.st_words.specs.Views.{Progress, with_progress, with_next, linked, without_waiter, with_standing, made_ready, made_running, cell_stored, in_hand, root_tried, note_loaded, cell_seen}
+use Rattle.st_words.specs.Encodings.{is_counter}
+use Rattle.st_words.specs.Views.{Progress, with_progress, with_next, linked, without_waiter, cell_stored, root_tried, note_loaded, cell_seen}
 use Rattle.st_words.specs.declared.view.Loaded.TheVariants as loads
 use Rattle.st_world.specs.Functions.{put}
-use Rattle.st_world.specs.World.{World, seen, with_word, woken, waking}
-use Rattle.st_world.proofs.Functions.{put_here, put_other, put_case, put_keeps, put_was, put_all, put_id}
-use Rattle.st_lists.specs.Listing.{Spot, Nowhere, Listed, Held, Behind, Readied, Rooted, IsList, IsOpen, head_by, HandHas, Listing, Rooting, Numbers, Lists, hands, readies, finders, counters}
+use Rattle.st_world.specs.World.{World, seen, with_word}
+use Rattle.st_world.proofs.Functions.{put_here, put_case, put_all}
+use Rattle.st_lists.specs.Listing.{Spot, Nowhere, Listed, Held, Behind, Readied, Rooted, IsList, IsOpen, head_by, HandHas, Listing, Lists, hands, readies, finders, counters}
 use Rattle.st_lists.specs.Laws.{IsLast}
-use Rattle.st_lists.proofs.Apart.{held_behind, behind_held, rooted_listed, rooted_held, rooted_behind, rooted_readied}
-use Rattle.st_lists.proofs.Lists.{handed, was}
+use Rattle.st_lists.proofs.Apart.{rooted_listed, rooted_behind, rooted_readied}
+use Rattle.st_lists.proofs.Lists.{handed}
 use Rattle.st_lists.proofs.Ranks.{ranked, ranked_here, ranked_only}
 use Rattle.st_lists.proofs.Handing as handing
 use Rattle.st_lists.proofs.Nexts.{Leads}
 use Rattle.st_lists.proofs.Fills as fills
 use Rattle.st_lists.proofs.Follows as follows
 use Rattle.st_lists.proofs.Singles as singles
-use Rattle.st_lists.proofs.InHands.{once_same, leader_case, hand_case}
-use Rattle.st_lists.proofs.ViewsAfter.{SameParts, itself, same_running}
+use Rattle.st_lists.proofs.InHands.{once_same, leader_case}
 use Rattle.st_lists.proofs.Wholes.{part_eq, part_same, rebuilt, SameRoot, root_same, root_put, below_put, the_same, quiet_world}
 
 -- ---- a list is handed out

@@ -1,24 +1,23 @@
 -- The laws of numbers and lists, over worlds. Read MoveLaws (what a worker does between steps keeps them) and ViewLaws (what is always so of a view).
 -- Tends is what a careful step keeps of the lists, and IsKnown what others know of it.
-use Rattle.std.specs.Prelude.{◌≡◌, ◌≢◌, ◌⊎◌, ℕ, ◌+◌, ◌<◌, ◌≤◌, true, false, List, Some}
+use Rattle.std.specs.Prelude.{◌≡◌, ◌⊎◌, ℕ, ◌+◌, ◌<◌, true, false, List, Some}
 use Rattle.std.specs.List.{Contains}
 use Rattle.st_base.specs.declared.chain.Frame.{Frame}
 use Rattle.st_base.specs.declared.chain.Waiting.{Waiting}
 use Rattle.st_base.specs.declared.chain.Waiting.TheVariants as waits
-use Rattle.st_words.specs.declared.view.CellWord.TheVariants.{Owner, State, Next, Standing}
+use Rattle.st_words.specs.declared.view.CellWord.TheVariants.{Owner, Next, Standing}
 use Rattle.st_words.specs.declared.view.Slot.TheVariants.{Cell}
 use Rattle.st_words.specs.declared.view.Known.{Known}
 use Rattle.st_words.specs.declared.view.Carried.{Carried}
 use Rattle.st_words.specs.declared.view.Waiter.{Waiter}
 use Rattle.st_words.specs.declared.view.View.{View}
 use Rattle.st_words.specs.Encodings.{is_counter, full_word, count_in, head_in, counter_word, ready}
-use Rattle.st_words.specs.Steps.{Step, CellLoad, CellStore, CellChange, SlotTake, SlotPut, Answer, Number, Can, HasInHand, IsFuture, IsCounter, IsDone}
+use Rattle.st_words.specs.Steps.{Step, CellStore, CellChange, SlotTake, SlotPut, HasInHand, IsFuture, IsCounter, IsDone}
 use Rattle.st_words.specs.Careful.{InHand}
-use Rattle.st_words.specs.Promises.{NextIs}
-use Rattle.st_words.specs.Views.{Progress, with_progress, Does, counts_cell, owner_seen}
+use Rattle.st_words.specs.Views.{Progress, with_progress, counts_cell, owner_seen}
 use Rattle.st_words.specs.Moves.{suspending, giving, restarting, beginning, exporting}
-use Rattle.st_world.specs.World.{World, seen, Finds, world_after}
-use Rattle.st_lists.specs.Listing.{Nowhere, Held, HandHas, Once, Lists}
+use Rattle.st_world.specs.World.{World, seen}
+use Rattle.st_lists.specs.Listing.{Nowhere, Held, Once, Lists}
 
 -- ---- what a careful step keeps of the lists
 
