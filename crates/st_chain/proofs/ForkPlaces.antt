@@ -1,9 +1,9 @@
 -- The forks of laid out code rise (forks_rise), a fork is found by the address of its third jump (third_found), and at the places of a thread that
 -- waits none is (third_missed). A search by halves among forks that rise finds the first that is not before an address (parted, found_at, got).
-use Rattle.std.proofs.Common.{◌≡◌, ◌≢◌, ◌⊎◌, inl, inr, ℕ, zero, suc, ◌+◌, ◌-◌, ◌*◌, ◌<◌, ◌≤◌, ◌==◌, Bool, true, false, List, [], ◌∷◌, ◌++◌, length, take, Option, Some, None, slice_get, get_or, Bor, nat_lt, refl, ap, sym, ◌∙◌, subst, arith, append_assoc, if◌then◌else◌}
+use Rattle.std.proofs.Common.{◌≡◌, ◌≢◌, ℕ, zero, suc, ◌+◌, ◌-◌, ◌*◌, ◌<◌, ◌≤◌, Bool, true, false, List, [], ◌∷◌, ◌++◌, length, take, Option, Some, None, slice_get, get_or, Bor, nat_lt, refl, ap, sym, ◌∙◌, subst, arith, append_assoc, if◌then◌else◌}
 use Rattle.std.specs.List.Sorted.{IsPartitionedBy, IsPartitionPoint}
 use Rattle.std.specs.Option.{is_some, IfSome, option_copied}
-use Rattle.std.proofs.lemmas.Bool.{lt-ltb, le-ltb, ltb-true, ltb-false, ne_eqb, eqb-true, eqb-false, eq-eqb}
+use Rattle.std.proofs.lemmas.Bool.{lt-ltb, le-ltb, ltb-true, ltb-false, ne_eqb, eq-eqb}
 use Rattle.std.proofs.lemmas.Option.{slice_get-get_or}
 use Rattle.st_base.specs.declared.image.ForkRow.{ForkRow}
 use Rattle.st_base.specs.declared.image.Image.{Image}
@@ -14,7 +14,7 @@ use Rattle.st_model.specs.declared.program.ItemKind.{ItemKind}
 use Rattle.st_model.specs.declared.program.ItemKind.TheVariants as items
 use Rattle.st_model.specs.declared.program.Program.{Program}
 use Rattle.st_model.specs.declared.program.ProgramFunction.{ProgramFunction}
-use Rattle.st_model.specs.Layout.{IsCodeOf, item_size, items_size, function_size, functions_size, fork_row, item_forks, forks_from, forks_of, code_start, saved_of}
+use Rattle.st_model.specs.Layout.{IsCodeOf, item_size, items_size, function_size, functions_size, fork_row, item_forks, forks_from, forks_of, code_start}
 use Rattle.st_step.specs.Frames.{address_in}
 use Rattle.st_items.specs.Code.{HasItem}
 use Rattle.st_chain.specs.Forks.{fork_from, handle_if, handle_behind, AreRising}

@@ -1,12 +1,12 @@
 -- Frames of a thread that is taken, as they are exported one by one: read joins_added (what an export comes to), will_export (what is to come is one frame
 -- fewer) and are_exported (nothing is to come). Of frames that are apart: apart_at, all_tail, split_apart.
-use Rattle.std.proofs.Common.{◌≡◌, ◌≢◌, ◌⊎◌, inl, inr, ℕ, zero, suc, ◌+◌, ◌<◌, ◌≤◌, Bool, true, false, List, [], ◌∷◌, ◌++◌, length, slice_index_or, refl, ap, sym, ◌∙◌, subst, arith, append_assoc}
+use Rattle.std.proofs.Common.{◌≡◌, ◌≢◌, ◌⊎◌, inl, inr, ℕ, zero, suc, Bool, true, false, List, [], ◌∷◌, ◌++◌, refl, ap, sym, ◌∙◌, subst, arith, append_assoc}
 use Rattle.std.specs.List.{Contains}
 use Rattle.st_base.specs.declared.chain.Frame.{Frame}
 use Rattle.st_step.specs.Runs.{return_word}
-use Rattle.st_stack.specs.Exported.{Exports, IsFrameOn, MayExport, IsAdded, Apart}
+use Rattle.st_stack.specs.Exported.{Exports, IsFrameOn, IsAdded, Apart}
 use Rattle.st_chain.specs.Places.{Joins}
-use Rattle.st_chain.specs.Seen.{AreApart, IsEven, joined}
+use Rattle.st_chain.specs.Seen.{AreApart}
 use Rattle.st_chain.specs.Taking.{AllApart, WillExport, AreExported, IsRead, bottom_word}
 
 -- ---- lists of frames
@@ -37,6 +37,14 @@ split_apart f (x ∷ xs) ys apart = let rest = split_apart f xs ys apart.2 in ((
 pub all_tail : (xs ys : List Frame) → AllApart (xs ++ ys) → AllApart ys
 all_tail [] ys all = all
 all_tail (x ∷ xs) ys all = all_tail xs ys all.2
+
+pub contains_left : (xs ys : List Frame) (g : Frame) → Contains xs g → Contains (xs ++ ys) g
+contains_left [] ys g (k, inside, is) = absurd (omega arith)
+contains_left (x ∷ xs) ys g there = elim (contains_split x g xs there) [ inl same ↦ subst (Contains (x ∷ (xs ++ ys))) (sym same) (contains_here x (xs ++ ys)) | inr later ↦ contains_more x g (xs ++ ys) (contains_left xs ys g later) ]
+
+pub apart_before : (g : Frame) (xs ys : List Frame) → AllApart (xs ++ ys) → Contains ys g → AreApart g xs
+apart_before g [] ys all there = tt
+apart_before g (x ∷ xs) ys all there = (turned x g (apart_at x g ys (split_apart x xs ys all.1).1 there), all.0, apart_before g xs ys all.2 there)
 
 -- ---- an export
 
@@ -99,6 +107,23 @@ are_exported s final will = record { all = λ g there. all g (will.were g there)
     all : (g : Frame) → Contains s.exported g ⊎ (Contains [] g × IsFrameOn s.lo s.hi g) → Contains s.exported g
     all g (inl there) = there
     all g (inr ((k, inside, is), on)) = absurd (omega arith)
+
+-- nothing is exported with a thread that isn't taken
+pub will_same : (s s' : Exports) (f : Frame) (fs final : List Frame) → Joins false s f s' → WillExport s fs final → WillExport s' fs final
+will_same s s' f fs final joins will = record {
+  stay = λ g there. will.stay g (back g (joins.were g there));
+  come = λ g there on. will.come g there (on_same s s' f g false joins on);
+  were = λ g there. were_some g (will.were g there);
+  may = λ g there on h old other. will.may g there (on_same s s' f g false joins on) h (back h (joins.were h old)) other;
+}
+  where
+    back : (g : Frame) → Contains s.exported g ⊎ ((g ≡ f) × (false ≡ true) × IsFrameOn s.lo s.hi f) → Contains s.exported g
+    back g (inl there) = there
+    back g (inr (same, never, on)) = absurd (let no : ⊥ = cc in no)
+
+    were_some : (g : Frame) → Contains s.exported g ⊎ (Contains fs g × IsFrameOn s.lo s.hi g) → Contains s'.exported g ⊎ (Contains fs g × IsFrameOn s'.lo s'.hi g)
+    were_some g (inl there) = inl (joins.stay g there)
+    were_some g (inr (there, on)) = inr (there, on_back s s' f g false joins on)
 
 -- ---- what is read
 

@@ -8,3 +8,4 @@ pub mod ForkPlaces
 pub mod Joining
 pub mod Walked
 pub mod Suspending
+pub mod Giving

@@ -1,7 +1,6 @@
 -- A suspension, step by step: it begins (starts), an instruction of a copy (may_go, went_on), a frame (begins), and its end with nothing below (ended) or
 -- with a thread below (cut_at, forked).
-use Rattle.std.proofs.Common.{◌≡◌, ◌≢◌, ◌⊎◌, inl, inr, ℕ, zero, suc, ◌+◌, ◌-◌, ◌*◌, ◌/◌, ◌^◌, ◌<◌, ◌≤◌, ◌==◌, ◌||◌, Bool, true, false, List, [], ◌∷◌, ◌++◌, length, map, Option, Some, None, is_some, slice_index, slice_set, refl, ap, sym, ◌∙◌, subst, arith, length-append, append_assoc, if◌then◌else◌}
-use Rattle.std.specs.List.{Contains}
+use Rattle.std.proofs.Common.{◌≡◌, ◌≢◌, ◌⊎◌, inl, inr, ℕ, zero, suc, ◌+◌, ◌-◌, ◌^◌, ◌<◌, ◌≤◌, ◌==◌, ◌||◌, Bool, true, false, List, [], ◌∷◌, ◌++◌, length, Option, Some, None, is_some, slice_index, slice_set, refl, ap, sym, ◌∙◌, subst, arith, length-append, if◌then◌else◌}
 use Rattle.std.proofs.lemmas.Bool.{ne_eqb, eqb-true, eqb-false, or_cases}
 use Rattle.st_base.specs.declared.chain.Chain.{Chain}
 use Rattle.st_base.specs.declared.chain.Frame.{Frame}
@@ -23,14 +22,13 @@ use Rattle.st_model.specs.Accepted.{IsAccepted}
 use Rattle.st_model.specs.Effect.{File}
 use Rattle.st_model.specs.Flow.{between}
 use Rattle.st_model.specs.Layout.{IsCodeOf}
-use Rattle.st_model.specs.Memory.{Data}
 use Rattle.st_model.proofs.Places.{between_holds, between_from}
 use Rattle.st_words.specs.declared.view.Known.{Known}
 use Rattle.st_words.specs.Steps.{Step, StackLoad, StackStore, Answer, Done, place_of}
 use Rattle.st_step.specs.declared.state.State.{State}
 use Rattle.st_step.specs.Frames.{IsHeldAs, is_kept, value_in}
 use Rattle.st_step.specs.Moves.{register, written, at_place}
-use Rattle.st_step.specs.Runs.{HasRegisters, return_word}
+use Rattle.st_step.specs.Runs.{HasRegisters, AreWords, return_word}
 use Rattle.st_step.proofs.Writes.{length-written}
 use Rattle.st_items.specs.Body.{Context, Ends, IsOn}
 use Rattle.st_items.specs.Rows.{row_behind, AreAscending}
@@ -38,25 +36,24 @@ use Rattle.st_items.proofs.Rows.{rows_ascend}
 use Rattle.st_items.proofs.SavedRegisters.{not_zero, value-written_other, value-written_same}
 use Rattle.st_stack.specs.Exported.{Exports, IsFrameOn, MayExport}
 use Rattle.st_chain.specs.declared.walk.Place.TheVariants as places
-use Rattle.st_chain.specs.declared.walk.Place.{Place}
 use Rattle.st_chain.specs.declared.walk.Stage.{Stage}
 use Rattle.st_chain.specs.declared.walk.Stage.TheVariants as stages
 use Rattle.st_chain.specs.declared.walk.Walk.{Walk}
 use Rattle.st_chain.specs.Walk.{word_in, is_held, named_by, FromNewest}
-use Rattle.st_chain.specs.Threads.{AtEnd, Lower, HoldsOver, put_value}
+use Rattle.st_chain.specs.Threads.{AtEnd, Lower, put_value}
 use Rattle.st_chain.specs.Chains.{saved_value, words_ahead, StandsOver, StandsFor}
-use Rattle.st_chain.specs.Seen.{AllSame, SameKept, joined, IsEven, AreApart, IsCut, IsWhole}
-use Rattle.st_chain.specs.Logical.{restarted, IsRestarted, IsPopped}
+use Rattle.st_chain.specs.Seen.{SameKept, joined, AreApart, IsCut, IsWhole}
+use Rattle.st_chain.specs.Logical.{restarted, IsPopped}
 use Rattle.st_chain.specs.Laws.{AllSameHeld}
-use Rattle.st_chain.specs.Copying.{over, CopyRuns, MayCopy, Loads, Copied}
+use Rattle.st_chain.specs.Copying.{over, MayCopy, Loads, Copied}
 use Rattle.st_chain.specs.Forks.{handle_behind}
-use Rattle.st_chain.specs.Places.{place_by, place_at, place_of as walk_place, counted, begun, frame_of, Joins, saved_in, chain_at, first_walk}
-use Rattle.st_chain.specs.Walking.{Remaining, Stands, IsAt, steps_of}
-use Rattle.st_chain.specs.Taking.{Taking, threads_of, frames_of, notes_of, beneath, AllApart, bottom_word, WillExport, AreExported, IsRead, GoesOn, place_in, IsTop, CanSuspend, Suspending, Suspends, IsTaken, NextGoesOn, Cuts}
+use Rattle.st_chain.specs.Places.{place_by, place_at, place_of as walk_place, counted, begun, frame_of, Joins, saved_in, chain_at, first_walk, downward}
+use Rattle.st_chain.specs.Walking.{Remaining, IsAt}
+use Rattle.st_chain.specs.Taking.{Taking, notes_of, beneath, AllApart, bottom_word, WillExport, AreExported, IsRead, place_in, IsTop, CanSuspend, Suspending, Suspends, IsTaken, NextGoesOn, Cuts}
 use Rattle.st_chain.proofs.Frames.{newest_same, lower_same, apart_same}
-use Rattle.st_chain.proofs.Joining.{will_export, are_exported, read_more, read_all, rest_apart, split_apart}
+use Rattle.st_chain.proofs.Joining.{will_export, are_exported, read_more, read_all, rest_apart, split_apart, contains_left, apart_before}
 use Rattle.st_chain.proofs.LawsHold.{stored_cut, still_held, decide, thread_cut, restarts}
-use Rattle.st_chain.proofs.Walked.{IsThirdOf, forked_third, frame_here, end_here, fork_here, CopyBegun, copy_begun, copied, Oldest, oldest, loads_map, newest_few}
+use Rattle.st_chain.proofs.Walked.{IsThirdOf, forked_third, frame_here, end_here, fork_here, CopyBegun, copy_begun, copied, oldest, loads_map, newest_few}
 
 -- ---- registers
 
@@ -84,7 +81,7 @@ saved_later m x least most =
     ∙ ap (λ (b : Bool). if b then slice_index (saved_in m) 0 else slice_index (saved_in m) (x - 17)) not_s1
     ∙ ap (slice_index (saved_in m)) (sym place) ∙ ten m (x - 18) (omega arith) ∙ ap (value_in m) there
 
-saved_same : (m : State) → HasRegisters m → SameKept (value_in m) (saved_value (saved_in m))
+pub saved_same : (m : State) → HasRegisters m → SameKept (value_in m) (saved_value (saved_in m))
 saved_same m has x kept =
     elim (or_cases (x == 0 || x == 9) (between 18 28 x) kept) [
       | inl few ↦ elim (or_cases (x == 0) (x == 9) few) [
@@ -94,7 +91,7 @@ saved_same m has x kept =
       | inr later ↦ let range = between_holds 18 28 x later in sym (saved_later m x range.0 range.1)
     ]
 
-put_written : (m : State) (r : Reg) (n x : ℕ) → length m.registers ≡ 32 → (reg_number r == 0) ≡ false → put_value (reg_number r) n (value_in m) x ≡ value_in (written m r n) x
+pub put_written : (m : State) (r : Reg) (n x : ℕ) → length m.registers ≡ 32 → (reg_number r == 0) ≡ false → put_value (reg_number r) n (value_in m) x ≡ value_in (written m r n) x
 put_written m r n x count some = by_case (reg_number r == x) (eqb-true (reg_number r) x) (eqb-false (reg_number r) x)
   where
     by_case : (b : Bool) → (b ≡ true → reg_number r ≡ x) → (b ≡ false → reg_number r ≢ x) → (if b then n else value_in m x) ≡ value_in (written m r n) x
@@ -108,10 +105,10 @@ or_right false b is = is
 less_or : (a b : ℕ) → (a < b) ⊎ (b ≤ a)
 less_or a b = grind arith
 
-nine_kept : (x : ℕ) → is_kept x ≡ false → x ≢ 9
+pub nine_kept : (x : ℕ) → is_kept x ≡ false → x ≢ 9
 nine_kept x kept e = let at : is_kept x ≡ true = ap is_kept e in let no : ⊥ = cc in no
 
-unkept_out : (x : ℕ) → is_kept x ≡ false → (x < 18) ⊎ (28 ≤ x)
+pub unkept_out : (x : ℕ) → is_kept x ≡ false → (x < 18) ⊎ (28 ≤ x)
 unkept_out x kept = elim (less_or x 18) [ inl under ↦ inl under | inr least ↦ elim (less_or x 28) [ inl most ↦ absurd (never least most) | inr over ↦ inr over ] ]
   where
     never : 18 ≤ x → x < 28 → ⊥
@@ -119,31 +116,31 @@ unkept_out x kept = elim (less_or x 18) [ inl under ↦ inl under | inr least �
 
 -- ---- machines and threads
 
-on_at : (ends : Ends) (held : List (Option ℕ)) (pc : ℕ) (m : State) → IsOn ends (over held m) → IsOn ends (over held (at_place pc m))
+pub on_at : (ends : Ends) (held : List (Option ℕ)) (pc : ℕ) (m : State) → IsOn ends (over held m) → IsOn ends (over held (at_place pc m))
 on_at ends held pc m on = record { has_registers = record { count = on.has_registers.count; origin = on.has_registers.origin }; values = on.values; words = on.words; lo = on.lo; hi = on.hi; sp = on.sp; gp = on.gp }
 
-words_few : (wait : Waiting) (ahead : ℕ) → words_ahead wait ahead → ahead ≤ 1
+pub words_few : (wait : Waiting) (ahead : ℕ) → words_ahead wait ahead → ahead ≤ 1
 words_few (waits.Touch cell) ahead is = omega arith
 words_few (waits.Join cell least) ahead is = omega arith
 words_few waits.Trapped ahead is = is
 words_few waits.Ready ahead is = omega arith
 words_few waits.Start ahead is = absurd is
 
-remaining_newest : (p : Program) (names : List (Held × ℕ)) (held : List (Option ℕ)) (end : Context) (ahead pc fp : ℕ) (word value : ℕ → ℕ) (acts : List Activation) (fs : List Frame) → FromNewest p (named_by names) (is_held held) end ahead pc fp word value acts fs → Remaining p (named_by names) (is_held held) end ahead pc fp word value acts fs
+pub remaining_newest : (p : Program) (names : List (Held × ℕ)) (held : List (Option ℕ)) (end : Context) (ahead pc fp : ℕ) (word value : ℕ → ℕ) (acts : List Activation) (fs : List Frame) → FromNewest p (named_by names) (is_held held) end ahead pc fp word value acts fs → Remaining p (named_by names) (is_held held) end ahead pc fp word value acts fs
 remaining_newest p names held end ahead pc fp word value [] fs newest = absurd newest
 remaining_newest p names held end ahead pc fp word value (a ∷ older) fs newest = newest
 
-some_frames : (p : Program) (names : List (Held × ℕ)) (held : List (Option ℕ)) (end : Context) (ahead pc fp : ℕ) (word value : ℕ → ℕ) (acts : List Activation) (fs : List Frame) → FromNewest p (named_by names) (is_held held) end ahead pc fp word value acts fs → fs ≢ []
+pub some_frames : (p : Program) (names : List (Held × ℕ)) (held : List (Option ℕ)) (end : Context) (ahead pc fp : ℕ) (word value : ℕ → ℕ) (acts : List Activation) (fs : List Frame) → FromNewest p (named_by names) (is_held held) end ahead pc fp word value acts fs → fs ≢ []
 some_frames p names held end ahead pc fp word value [] fs newest = absurd newest
 some_frames p names held end ahead pc fp word value (a ∷ older) [] newest = absurd newest
 some_frames p names held end ahead pc fp word value (a ∷ older) (f ∷ fs) newest = λ e. let no : ⊥ = cc in no
 
-all_self : (held : List (Option ℕ)) (fs : List Frame) → AllSameHeld held held fs
+pub all_self : (held : List (Option ℕ)) (fs : List Frame) → AllSameHeld held held fs
 all_self held [] = tt
 all_self held (f ∷ fs) = (record { held = λ q inside here. here; words = λ q inside. refl }, all_self held fs)
 
 -- a thread over others is read the same by the registers that a call keeps
-over_kept : (p : Program) (accepted : IsAccepted p) (names : List (Held × ℕ)) (held : List (Option ℕ)) (cell : ℕ) (ts : List Known) (frames : List (List Frame)) (wait : Waiting) (pc fp : ℕ) (value value' : ℕ → ℕ) (thread : Thread) (fs : List Frame) → SameKept value value'
+pub over_kept : (p : Program) (accepted : IsAccepted p) (names : List (Held × ℕ)) (held : List (Option ℕ)) (cell : ℕ) (ts : List Known) (frames : List (List Frame)) (wait : Waiting) (pc fp : ℕ) (value value' : ℕ → ℕ) (thread : Thread) (fs : List Frame) → SameKept value value'
     → StandsOver p names held (Lower p (named_by names) (is_held held) cell ts frames) wait pc fp value thread fs → StandsOver p names held (Lower p (named_by names) (is_held held) cell ts frames) wait pc fp value' thread fs
 over_kept p accepted names held cell ts frames wait pc fp value value' thread fs same (ahead, words, waiting, keeps, newest) = (
   ahead,
@@ -156,7 +153,7 @@ over_kept p accepted names held cell ts frames wait pc fp value value' thread fs
 
 -- ---- notes
 
-notes_length : (us : List Known) → length (notes_of us) ≡ length us
+pub notes_length : (us : List Known) → length (notes_of us) ≡ length us
 notes_length [] = refl
 notes_length (u ∷ us) = let rest = notes_length us in let all = length-append (notes_of us) (u.note ∷ []) in omega (arith, rest, all)
 
@@ -230,7 +227,7 @@ module _ (image : Image) (t : Taking) (code : IsCodeOf Postprocessed t.p image) 
 
   -- ---- an instruction of a copy
 
-  may_by : (asks : Step → Type 0) (stage : Stage) (m : State) (acts : List Activation) (fs : List Frame) (n : ℕ) → walk_place image.forks stage m.pc ≡ places.Copy → ((q : ℕ) → is_held t.held q ≡ true → asks (StackLoad q)) → At stage m acts fs n → MayCopy asks image t.d m
+  pub may_by : (asks : Step → Type 0) (stage : Stage) (m : State) (acts : List Activation) (fs : List Frame) (n : ℕ) → walk_place image.forks stage m.pc ≡ places.Copy → ((q : ℕ) → is_held t.held q ≡ true → asks (StackLoad q)) → At stage m acts fs n → MayCopy asks image t.d m
   may_by asks stages.Frame m acts fs n is may at = absurd (not_copy (m.pc == 0x30) (handle_behind image.forks m.pc) is)
   may_by asks (stages.Copy zero) m acts fs n is may (f, (function, (last, runs, stands, some, total))) = absurd (omega (arith, some))
   may_by asks (stages.Copy (suc left)) m acts fs n is may (f, (function, (last, runs, stands, some, total))) = record { p = t.p; code = code; held = t.held; f = f; function = function; left = left; last = last; runs = runs; may = may }
@@ -239,7 +236,7 @@ module _ (image : Image) (t : Taking) (code : IsCodeOf Postprocessed t.p image) 
   may_go asks walk m s n is may g = may_by asks walk.stage walk.machine g.acts g.fs n is may g.at
 
   module _ {Board : Type 0} (made : Step → Answer → Board → Type 0) (old new : Board) where
-    copied_by : (stage : Stage) (m m' : State) (acts : List Activation) (fs : List Frame) (n : ℕ) → walk_place image.forks stage m.pc ≡ places.Copy → Copied made old image t.d m m' new → At stage m acts fs (suc n) → Loads made old t.held new (At (counted stage) m' acts fs n)
+    pub copied_by : (stage : Stage) (m m' : State) (acts : List Activation) (fs : List Frame) (n : ℕ) → walk_place image.forks stage m.pc ≡ places.Copy → Copied made old image t.d m m' new → At stage m acts fs (suc n) → Loads made old t.held new (At (counted stage) m' acts fs n)
     copied_by stages.Frame m m' acts fs n is goes at = absurd (not_copy (m.pc == 0x30) (handle_behind image.forks m.pc) is)
     copied_by (stages.Copy left) m m' acts fs n is goes at = copied t.p t.d image code t.names t.held made old new Behind left m m' acts fs n goes at
 
@@ -286,7 +283,7 @@ module _ (image : Image) (t : Taking) (code : IsCodeOf Postprocessed t.p image) 
       }
 
   -- what lies below ends the thread, or has forked it
-  not_frame : (cell : ℕ) (us : List Known) (rest : List (List Frame)) (kind : ActivationKind) (kept : File) (word value : ℕ → ℕ) (fp pc : ℕ) → place_at image.forks pc ≡ places.Frame → Lower t.p (named_by t.names) (is_held t.held) cell us rest kind kept word value fp pc → ⊥
+  pub not_frame : (cell : ℕ) (us : List Known) (rest : List (List Frame)) (kind : ActivationKind) (kept : File) (word value : ℕ → ℕ) (fp pc : ℕ) → place_at image.forks pc ≡ places.Frame → Lower t.p (named_by t.names) (is_held t.held) cell us rest kind kept word value fp pc → ⊥
   not_frame cell [] [] kind kept word value fp pc is (first, at) = let end = end_here t.p t.d image code t.names t.held pc at in let no : ⊥ = cc in no
   not_frame cell (u ∷ us) (fs ∷ rest) kind kept word value fp pc is (handle, forked, behind, over, newest) =
       let fork = fork_here t.p t.d image code t.names t.held pc handle (forked_third t.p t.d image code t.names t.held (Lower t.p (named_by t.names) (is_held t.held) u.note.cell us rest) word (put_value (reg_number handle) cell value) 0 (pc + 4) fp pc handle u.thread.activations fs behind newest) in
@@ -311,12 +308,12 @@ module _ (image : Image) (t : Taking) (code : IsCodeOf Postprocessed t.p image) 
 
   -- ---- nothing lies below
 
-  record IsEnd (walk : Walk) (s : Exports) (us : List Known) (rest : List (List Frame)) : Type 0 where
+  pub record IsEnd (walk : Walk) (s : Exports) (us : List Known) (rest : List (List Frame)) : Type 0 where
     pub none : us ≡ []
     pub none_frames : rest ≡ []
     pub exports : AreExported s t.exported
 
-  ends_lower : (s : Exports) (walk : Walk) (cell : ℕ) (us : List Known) (rest : List (List Frame)) (kind : ActivationKind) (kept : File) (word value : ℕ → ℕ) (fp pc : ℕ) → place_at image.forks pc ≡ places.End → WillExport s [] t.exported → Lower t.p (named_by t.names) (is_held t.held) cell us rest kind kept word value fp pc → IsEnd walk s us rest
+  pub ends_lower : (s : Exports) (walk : Walk) (cell : ℕ) (us : List Known) (rest : List (List Frame)) (kind : ActivationKind) (kept : File) (word value : ℕ → ℕ) (fp pc : ℕ) → place_at image.forks pc ≡ places.End → WillExport s [] t.exported → Lower t.p (named_by t.names) (is_held t.held) cell us rest kind kept word value fp pc → IsEnd walk s us rest
   ends_lower s walk cell [] [] kind kept word value fp pc is exports lower = record { none = refl; none_frames = refl; exports = are_exported s t.exported exports }
   ends_lower s walk cell (u ∷ us) (fs ∷ rest) kind kept word value fp pc is exports (handle, forked, behind, over, newest) =
       let fork = fork_here t.p t.d image code t.names t.held pc handle (forked_third t.p t.d image code t.names t.held (Lower t.p (named_by t.names) (is_held t.held) u.note.cell us rest) word (put_value (reg_number handle) cell value) 0 (pc + 4) fp pc handle u.thread.activations fs behind newest) in
@@ -359,14 +356,20 @@ module _ (image : Image) (t : Taking) (code : IsCodeOf Postprocessed t.p image) 
   differs g q whole (inl under) e = let above = whole.above in let some = whole.some in let low = whole.even.low in let base = whole.even.base in absurd (omega (arith, e))
   differs g q whole (inr over) e = let above = whole.above in let some = whole.some in let low = whole.even.low in let base = whole.even.base in absurd (omega (arith, e))
 
-  record IsCutAt (walk : Walk) (held' : List (Option ℕ)) : Type 0 where
+  cut_words : (word word' : ℕ → ℕ) (g : Frame) → IsCut word word' g → AreWords word → (q : ℕ) → (q ≡ return_word g.base) ⊎ (q ≢ return_word g.base) → word' q < 2 ^ 64
+  cut_words word word' g cut words q (inl same) = let is = ap word' same ∙ cut.cut in omega (arith, is)
+  cut_words word word' g cut words q (inr other) = subst (λ (n : ℕ). n < 2 ^ 64) (cut.others q other) (words q)
+
+  pub record IsCutAt (walk : Walk) (held' : List (Option ℕ)) : Type 0 where
     pub bottom : bottom_word t.frames ≡ return_word walk.base
     pub few : return_word walk.base < 2 ^ 32
     pub is : held' ≡ slice_set t.held (bottom_word t.frames) (Some 0x30)
     pub alone : (ahead pc fp : ℕ) (value : ℕ → ℕ) (acts : List Activation) → FromNewest t.p (named_by t.names) (is_held t.held) Behind ahead pc fp (word_in t.held) value acts t.frames → FromNewest t.p (named_by t.names) (is_held held') AtEnd ahead pc fp (word_in held') value acts t.frames
     pub below : AllSameHeld t.held held' (joined t.below_frames)
+    pub beside : (xs : List Frame) → AllApart (xs ++ (t.frames ++ joined t.below_frames)) → AllSameHeld t.held held' xs
+    pub words : AreWords (word_in t.held) → AreWords (word_in held')
 
-  cut_by : (walk : Walk) (ahead pc fp : ℕ) (value : ℕ → ℕ) (acts : List Activation) (frames : List Frame) → t.frames ≡ frames → AllApart (frames ++ joined t.below_frames) → bottom_word t.frames ≡ return_word walk.base → FromNewest t.p (named_by t.names) (is_held t.held) Behind ahead pc fp (word_in t.held) value acts frames
+  pub cut_by : (walk : Walk) (ahead pc fp : ℕ) (value : ℕ → ℕ) (acts : List Activation) (frames : List Frame) → t.frames ≡ frames → AllApart (frames ++ joined t.below_frames) → bottom_word t.frames ≡ return_word walk.base → FromNewest t.p (named_by t.names) (is_held t.held) Behind ahead pc fp (word_in t.held) value acts frames
       → IsCutAt walk (slice_set t.held (bottom_word t.frames) (Some 0x30))
   cut_by walk ahead pc fp value acts [] same all bottom newest = absurd (some_frames t.p t.names t.held Behind ahead pc fp (word_in t.held) value acts [] newest refl)
   cut_by walk ahead pc fp value acts (f ∷ fs) same all bottom newest =
@@ -386,12 +389,17 @@ module _ (image : Image) (t : Taking) (code : IsCodeOf Postprocessed t.p image) 
             (subst (λ (gs : List Frame). FromNewest t.p (named_by t.names) (is_held held') AtEnd a b c (word_in held') v acts' gs) (sym same)
             (thread_cut t.p t.names t.held o.g f fs t.taken.note.cell t.below t.below_frames a b c v acts' code.accepted o.whole o.is o.there (subst (λ (gs : List Frame). FromNewest t.p (named_by t.names) (is_held t.held) Behind a b c (word_in t.held) v acts' gs) same newest')));
         below = subst (λ (h : List (Option ℕ)). AllSameHeld t.held h (joined t.below_frames)) is outside;
+        beside = λ xs all'.
+            subst (λ (h : List (Option ℕ)). AllSameHeld t.held h xs) is
+            (apart_same (is_held t.held) (is_held held') (word_in t.held) (word_in held') o.g xs o.whole.even (λ q out. cut.others q (differs o.g q o.whole out)) (λ q here. still_held t.held (return_word o.g.base) q o.there (decide (return_word o.g.base) q) here)
+            (apart_before o.g xs ((f ∷ fs) ++ joined t.below_frames) (subst (λ (gs : List Frame). AllApart (xs ++ (gs ++ joined t.below_frames))) same all') (contains_left (f ∷ fs) (joined t.below_frames) o.g o.inside)));
+        words = λ words. subst (λ (h : List (Option ℕ)). AreWords (word_in h)) is (λ q. cut_words (word_in t.held) (word_in held') o.g cut words q (decide (return_word o.g.base) q));
       }
 
   -- ---- the thread below goes on
 
   -- behind a fork, with the frame pointer and the registers that a call keeps, of which the fork's has the cell
-  record IsResumed (handle : Reg) (cell : ℕ) (value : ℕ → ℕ) (pc fp : ℕ) (m m' : State) : Type 0 where
+  pub record IsResumed (handle : Reg) (cell : ℕ) (value : ℕ → ℕ) (pc fp : ℕ) (m m' : State) : Type 0 where
     pub place : m'.pc ≡ pc + 4
     pub base : register m' registers.S0 ≡ fp
     pub same : SameKept (put_value (reg_number handle) cell value) (value_in m')
@@ -401,12 +409,12 @@ module _ (image : Image) (t : Taking) (code : IsCodeOf Postprocessed t.p image) 
     pub hi : m'.hi ≡ m.hi
     pub whole : m'.half ≡ None
 
-  all_split : (held held' : List (Option ℕ)) (fs gs : List Frame) → AllSameHeld held held' (fs ++ gs) → AllSameHeld held held' fs × AllSameHeld held held' gs
+  pub all_split : (held held' : List (Option ℕ)) (fs gs : List Frame) → AllSameHeld held held' (fs ++ gs) → AllSameHeld held held' fs × AllSameHeld held held' gs
   all_split held held' [] gs all = (tt, all)
   all_split held held' (f ∷ fs) gs all = let rest = all_split held held' fs gs all.1 in ((all.0, rest.0), rest.1)
 
   -- the fork that made the thread, and that the thread below goes on behind it
-  record IsFork (handle : Reg) (cell pc fp : ℕ) (value : ℕ → ℕ) (us : List Known) (rest : List (List Frame)) : Type 0 where
+  pub record IsFork (handle : Reg) (cell pc fp : ℕ) (value : ℕ → ℕ) (us : List Known) (rest : List (List Frame)) : Type 0 where
     pub third : IsThirdOf image pc handle
     pub some : us ≢ []
     pub goes : (held' : List (Option ℕ)) (m m' : State) → AllSameHeld t.held held' (joined rest) → IsResumed handle cell value pc fp m m' → NextGoesOn t held' us rest m m'
@@ -440,12 +448,12 @@ module _ (image : Image) (t : Taking) (code : IsCodeOf Postprocessed t.p image) 
   forks_lower handle cell (u ∷ us) [] kind kept value fp pc is lower = absurd lower
 
   -- all frames of the thread are read, and a fork made it
-  record ForkIs (walk : Walk) (handle : Reg) (fs : List Frame) : Type 0 where
+  pub record ForkIs (walk : Walk) (handle : Reg) (fs : List Frame) : Type 0 where
     pub none : fs ≡ []
     pub has : HasRegisters walk.machine
     pub fork : IsFork handle t.taken.note.cell walk.machine.pc (register walk.machine registers.S0) (value_in walk.machine) t.below t.below_frames
 
-  forks_by : (walk : Walk) (handle : Reg) (n : ℕ) (stage : Stage) (acts : List Activation) (fs : List Frame) → walk_place image.forks stage walk.machine.pc ≡ places.Fork handle → At stage walk.machine acts fs n → ForkIs walk handle fs
+  pub forks_by : (walk : Walk) (handle : Reg) (n : ℕ) (stage : Stage) (acts : List Activation) (fs : List Frame) → walk_place image.forks stage walk.machine.pc ≡ places.Fork handle → At stage walk.machine acts fs n → ForkIs walk handle fs
   forks_by walk handle n (stages.Copy left) acts fs is at = absurd (let no : ⊥ = cc in no)
   forks_by walk handle n stages.Frame [] [] is (ahead, few, stands, total) =
       let (kind, (kept, lower)) = stands.remaining in
@@ -475,10 +483,6 @@ module _ (image : Image) (t : Taking) (code : IsCodeOf Postprocessed t.p image) 
       let f = fork_at walk handle m s n is g in
       let cut = cut_at walk m s n g f.none in
       record { few = cut.few; may = subst (λ (q : ℕ). asks (StackStore q 0x30)) cut.bottom (may f.fork.some); place = f.fork.third.high }
-
-  -- the machine that the walk goes down with
-  abbrev pub downward : State → Reg → ℕ → State
-  downward m handle cell = at_place (m.pc + 4) (written m handle cell)
 
   resumed_by : (handle : Reg) (cell : ℕ) (wm m : State) (note : Note) (wait : Waiting) → between 24 28 (reg_number handle) ≡ true → HasRegisters wm → HasRegisters m → IsResumed handle cell (value_in wm) wm.pc (register wm registers.S0) m (restarted (chain_at (downward wm handle cell) (wm.pc + 4) note wait) m)
   resumed_by handle cell wm m note wait kept has_w has =

@@ -1,8 +1,8 @@
 -- A walk, step by step: what it finds at a place (frame_here, end_here, fork_here), a copy that begins at a frame (copy_begun) and goes on (copied), and
 -- where what is older comes back to (below_back). The oldest frame of a thread: oldest.
-use Rattle.std.proofs.Common.{◌≡◌, ◌≢◌, ◌⊎◌, inl, inr, ℕ, zero, suc, ◌+◌, ◌-◌, ◌*◌, ◌/◌, ◌%◌, ◌^◌, ◌<◌, ◌≤◌, ◌==◌, Bool, true, false, List, [], ◌∷◌, ◌++◌, length, take, Option, Some, None, slice_get, slice_set, nat_lt, refl, ap, sym, ◌∙◌, subst, arith, if◌then◌else◌}
+use Rattle.std.proofs.Common.{◌≡◌, inl, inr, ℕ, zero, suc, ◌+◌, ◌-◌, ◌/◌, ◌%◌, ◌^◌, ◌<◌, ◌≤◌, Bool, true, List, [], ◌∷◌, ◌++◌, length, Option, Some, refl, ap, sym, ◌∙◌, subst, arith, if◌then◌else◌}
 use Rattle.std.specs.List.{Contains}
-use Rattle.std.proofs.lemmas.Bool.{lt-ltb, le-ltb, ne_eqb, eq-eqb}
+use Rattle.std.proofs.lemmas.Bool.{lt-ltb, ne_eqb, eq-eqb}
 use Rattle.st_base.specs.declared.chain.Frame.{Frame}
 use Rattle.st_base.specs.declared.image.FrameRow.{FrameRow}
 use Rattle.st_base.specs.declared.image.Image.{Image}
@@ -14,37 +14,33 @@ use Rattle.st_base.specs.declared.thread.ActivationKind.{ActivationKind}
 use Rattle.st_base.specs.declared.thread.Held.{Held}
 use Rattle.st_model.specs.declared.code.Layout.TheVariants.{Postprocessed}
 use Rattle.st_model.specs.declared.program.Item.{Item}
-use Rattle.st_model.specs.declared.program.ItemKind.{ItemKind}
 use Rattle.st_model.specs.declared.program.ItemKind.TheVariants as items
 use Rattle.st_model.specs.declared.program.Program.{Program}
 use Rattle.st_model.specs.declared.program.ProgramFunction.{ProgramFunction}
-use Rattle.st_model.specs.Accepted.{IsAccepted, HasFrame, Fits}
+use Rattle.st_model.specs.Accepted.{HasFrame, Fits}
 use Rattle.st_model.specs.Effect.{File}
 use Rattle.st_model.specs.Flow.{between}
-use Rattle.st_model.specs.Layout.{IsCodeOf, row_at, rows_of, saved_of, items_size, item_size, item_place, function_address, function_size, copy_by}
+use Rattle.st_model.specs.Layout.{IsCodeOf, row_at, saved_of, item_size, function_address}
 use Rattle.st_model.specs.Memory.{Data}
 use Rattle.st_model.proofs.CodeSize.{copy_length}
-use Rattle.st_model.proofs.Places.{between_holds}
 use Rattle.st_words.specs.declared.view.Known.{Known}
-use Rattle.st_words.specs.Steps.{Step, Answer, place_of}
+use Rattle.st_words.specs.Steps.{Step, Answer}
 use Rattle.st_step.specs.declared.state.State.{State}
-use Rattle.st_step.specs.Frames.{Naming, address_in, value_in, with_saved_values}
+use Rattle.st_step.specs.Frames.{address_in, value_in, with_saved_values}
 use Rattle.st_step.specs.Moves.{register, at_place}
-use Rattle.st_step.specs.Runs.{IsReturn, Situation, return_word, caller_word, HoldsFrame}
+use Rattle.st_step.specs.Runs.{IsReturn, Situation, return_word, caller_word}
 use Rattle.st_items.specs.Body.{Context, Ends, IsOn}
 use Rattle.st_items.specs.Code.{HasItem, IsSized}
-use Rattle.st_items.specs.Copied.{copy_address, Older}
 use Rattle.st_items.specs.Rows.{row_behind}
 use Rattle.st_items.proofs.Addresses.{sized, address_bounds, place_bounds, address_multiple, next_address}
 use Rattle.st_items.proofs.ItemCode.{formed_of}
 use Rattle.st_items.proofs.Rows.{row_found}
-use Rattle.st_stack.specs.Exported.{Apart}
 use Rattle.st_chain.specs.declared.walk.Place.TheVariants as places
 use Rattle.st_chain.specs.declared.walk.Stage.{Stage}
 use Rattle.st_chain.specs.declared.walk.Stage.TheVariants as stages
-use Rattle.st_chain.specs.Walk.{word_in, is_held, named_by, LiesAt, IsActivation, Below, FromNewest}
-use Rattle.st_chain.specs.Threads.{AtEnd, Lower, IsBehindFork, HasForked}
-use Rattle.st_chain.specs.Seen.{joined, IsEven, AreApart, IsWhole, IsOldest}
+use Rattle.st_chain.specs.Walk.{word_in, is_held, named_by, LiesAt, Below, FromNewest}
+use Rattle.st_chain.specs.Threads.{Lower, IsBehindFork, HasForked}
+use Rattle.st_chain.specs.Seen.{joined, AreApart, IsWhole, IsOldest}
 use Rattle.st_chain.specs.Copying.{over, CopyRuns, Loads, Copied}
 use Rattle.st_chain.specs.Forks.{handle_behind}
 use Rattle.st_chain.specs.Places.{place_by, place_at, counted, frame_of}
@@ -91,7 +87,7 @@ pub record IsThirdOf (image : Image) (ret : ℕ) (handle : Reg) : Type 0 where
   pub kept : between 24 28 (reg_number handle) ≡ true
 
 module _ (p : Program) (d : Data) (image : Image) (code : IsCodeOf Postprocessed p image) where
-  is_sized : IsSized Postprocessed p
+  pub is_sized : IsSized Postprocessed p
   is_sized = sized Postprocessed p code.accepted code.size
 
   handle_kept : (f i : ℕ) (function : ProgramFunction) (item : Item) (g : ℕ) (handle : Reg) → HasItem p f function i item → item.kind ≡ items.Fork g handle → between 24 28 (reg_number handle) ≡ true

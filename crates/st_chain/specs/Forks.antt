@@ -1,6 +1,6 @@
 -- The forks of an image by the addresses of their third jumps: handle_behind (the register of the handle of the fork whose third jump has an address,
 -- where the forks rise).
-use Rattle.std.specs.Prelude.{ℕ, ◌+◌, ◌-◌, ◌≤◌, ◌==◌, nat_lt, List, [], ◌∷◌, Option, Some, None, if◌then◌else◌}
+use Rattle.std.specs.Prelude.{ℕ, ◌-◌, ◌≤◌, ◌==◌, nat_lt, List, [], ◌∷◌, Option, Some, None, if◌then◌else◌}
 use Rattle.st_base.specs.declared.image.ForkRow.{ForkRow}
 use Rattle.st_base.specs.declared.reg.Reg.{Reg}
 

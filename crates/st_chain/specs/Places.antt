@@ -1,18 +1,20 @@
 -- What a walk does at its places, as its code does it: place_of (what it comes to next), counted (the stage behind one more instruction of a copy), begun
--- (a copy begins), Joins (a frame is exported with it) and chain_at (the chain of a machine).
-use Rattle.std.specs.Prelude.{◌≡◌, ◌⊎◌, ℕ, ◌-◌, ◌/◌, ◌==◌, nat_lt, Bool, true, List, map, Option, Some, None, if◌then◌else◌}
+-- (a copy begins), Joins (a frame is exported with it), chain_at (the chain of a machine), and gone_below and gone_to_bottom (it goes on in the thread
+-- below).
+use Rattle.std.specs.Prelude.{◌≡◌, ◌⊎◌, ℕ, ◌+◌, ◌-◌, ◌/◌, ◌==◌, nat_lt, Bool, true, List, map, Option, Some, None, is_some, if◌then◌else◌}
 use Rattle.std.specs.List.{Contains}
 use Rattle.st_base.specs.declared.chain.Chain.{Chain}
 use Rattle.st_base.specs.declared.chain.Frame.{Frame}
 use Rattle.st_base.specs.declared.chain.Note.{Note}
 use Rattle.st_base.specs.declared.chain.Waiting.{Waiting}
+use Rattle.st_base.specs.declared.chain.Waiting.TheVariants as waits
 use Rattle.st_base.specs.declared.image.ForkRow.{ForkRow}
 use Rattle.st_base.specs.declared.image.FrameRow.{FrameRow}
 use Rattle.st_base.specs.declared.reg.Reg.{Reg}
 use Rattle.st_base.specs.declared.reg.Reg.TheVariants as registers
 use Rattle.st_model.specs.Layout.{saveable}
 use Rattle.st_step.specs.declared.state.State.{State}
-use Rattle.st_step.specs.Moves.{register, at_place}
+use Rattle.st_step.specs.Moves.{register, written, at_place}
 use Rattle.st_stack.specs.Exported.{Exports, IsFrameOn}
 use Rattle.st_chain.specs.declared.walk.Place.{Place}
 use Rattle.st_chain.specs.declared.walk.Place.TheVariants as places
@@ -68,3 +70,25 @@ chain_at m pc note wait = record { cell = note.cell; pc = pc; fp = register m re
 -- the walk of a suspension that begins: over the frames of the top thread, by its place in the notes
 abbrev pub first_walk : State → ℕ → Note → Waiting → ℕ → Walk
 first_walk m pc note wait thread = record { machine = at_place pc m; stage = stages.Frame; base = 0; thread = thread; chain = Some (chain_at m pc note wait) }
+
+-- ---- all threads
+
+-- where the walk over all threads begins: where the machine is, or, where that has just forked the top thread, at the third jump of the fork
+abbrev pub first_place : List ForkRow → ℕ → ℕ
+first_place forks pc = if is_some (handle_behind forks (pc + 4)) then pc + 4 else pc
+
+-- the walk of a giving that begins: over the frames of all threads, the top one first
+abbrev pub whole_walk : List ForkRow → State → ℕ → Walk
+whole_walk forks m thread = record { machine = at_place (first_place forks m.pc) m; stage = stages.Frame; base = 0; thread = thread; chain = None }
+
+-- behind the fork at whose third jump the machine is, with the cell of the thread above in the fork's register
+abbrev pub downward : State → Reg → ℕ → State
+downward m handle cell = at_place (m.pc + 4) (written m handle cell)
+
+abbrev pub gone_below : Walk → Reg → ℕ → Walk
+gone_below walk handle cell = record walk { machine = downward walk.machine handle cell; thread = walk.thread - 1 }
+
+-- the bottom thread has its chain then
+abbrev pub gone_to_bottom : Walk → Reg → ℕ → Note → Walk
+gone_to_bottom walk handle cell note =
+    record walk { machine = downward walk.machine handle cell; thread = 0; chain = Some (chain_at (downward walk.machine handle cell) (walk.machine.pc + 4) note waits.Ready) }

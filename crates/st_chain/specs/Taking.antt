@@ -2,7 +2,7 @@
 -- lie. Read Taking (all that is said of one taking: the worker's threads with their frames, which one is taken, and the words, names and exported
 -- frames), MaySuspend and MayGive (what a step asks), and SuspendStep and GiveStep (what it comes to). No start of a taking is remembered: a
 -- step says that whatever its state leads to, the state after it leads to, or is.
-use Rattle.std.specs.Prelude.{◌≡◌, ◌≢◌, ◌⊎◌, ℕ, suc, ◌+◌, ◌*◌, ◌≤◌, Bool, true, false, nat_lt, List, [], ◌∷◌, ◌++◌, length, Option, Some, None, slice_set, if◌then◌else◌}
+use Rattle.std.specs.Prelude.{◌≡◌, ◌≢◌, ◌⊎◌, ℕ, suc, ◌+◌, ◌*◌, ◌≤◌, true, false, nat_lt, List, [], ◌∷◌, ◌++◌, length, Option, Some, None, slice_set, if◌then◌else◌}
 use Rattle.std.specs.List.{Contains}
 use Rattle.st_base.specs.declared.chain.Chain.{Chain}
 use Rattle.st_base.specs.declared.chain.Frame.{Frame}
@@ -20,10 +20,10 @@ use Rattle.st_model.specs.Effect.{File}
 use Rattle.st_model.specs.Layout.{IsCodeOf}
 use Rattle.st_model.specs.Memory.{Data}
 use Rattle.st_words.specs.declared.view.Known.{Known}
-use Rattle.st_words.specs.Steps.{Step, StackLoad, StackStore, Answer, Done, Number, kept}
+use Rattle.st_words.specs.Steps.{Step, StackLoad, StackStore, Answer, Done}
 use Rattle.st_stack.specs.Exported.{Exports, IsFrameOn, MayExport}
 use Rattle.st_step.specs.declared.state.State.{State}
-use Rattle.st_step.specs.Frames.{Naming, is_kept, value_in}
+use Rattle.st_step.specs.Frames.{is_kept, value_in}
 use Rattle.st_step.specs.Moves.{register}
 use Rattle.st_step.specs.Runs.{return_word}
 use Rattle.st_items.specs.Body.{Context, Ends, IsOn}
@@ -229,6 +229,7 @@ pub record CanGive (t : Taking) (notes : List Note) (m : State) (s : Exports) (n
 -- a walk is at some frames of a thread above the one that is given
 pub record GivingAbove (t : Taking) (notes : List Note) (walk : Walk) (m : State) (s : Exports) (n : ℕ) : Type 0 where
   pub bottom : IsBottom t notes
+  pub framed : t.above_frames ≢ [] ∷ []
   pub stands : TopStands t.p t.names t.held m (threads_of t) (frames_of t)
   pub none : walk.chain ≡ None
   pub upper : List Known

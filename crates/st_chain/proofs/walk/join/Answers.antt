@@ -1,6 +1,5 @@
 use Rattle.std.proofs.Common.{refl}
 use Rattle.st_chain.proofs.Joining.{joins_added}
-use Rattle.st_chain.proofs.Suspending.{begins}
 use Rattle.st_chain.proofs.walk.join.Goals as goal
 
 pub export-new-requires-clause-apart : goal.export-new-requires-clause-apart

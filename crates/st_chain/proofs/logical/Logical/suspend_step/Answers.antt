@@ -1,18 +1,14 @@
-use Rattle.std.proofs.Common.{◌≡◌, ◌+◌, ◌<◌, ℕ, true, [], ◌∷◌, ◌++◌, List, Option, None, Some, suc, is_some, length, refl, inl, ap, sym, ◌∙◌, subst}
+use Rattle.std.proofs.Common.{◌≡◌, ◌+◌, ◌<◌, List, None, Some, suc, is_some, length, refl, inl, ap, sym, ◌∙◌, subst}
 use Rattle.st_base.specs.declared.chain.Chain.{Chain}
 use Rattle.st_base.specs.declared.chain.Note.{Note}
 use Rattle.st_base.specs.declared.chain.Waiting.TheVariants as waits
-use Rattle.st_base.specs.declared.image.FrameRow.{FrameRow}
 use Rattle.st_model.specs.Memory.{Data}
 use Rattle.st_words.specs.Made.{Asked, StepMade}
-use Rattle.st_words.specs.Steps.{Step, Answer}
 use Rattle.st_step.specs.declared.state.State.{State}
-use Rattle.st_stack.specs.Exported.{IsFrameOn, MayExport}
 use Rattle.st_chain.specs.declared.walk.Walk.{Walk}
-use Rattle.st_chain.specs.declared.walk.Stage.{Stage}
 use Rattle.st_chain.specs.Copying.{MayCopy, Copied}
 use Rattle.st_chain.specs.Logical.{Threads, restarted}
-use Rattle.st_chain.specs.Places.{Joins, begun, counted, frame_of, chain_at}
+use Rattle.st_chain.specs.Places.{Joins, begun, counted, frame_of, chain_at, downward}
 use Rattle.st_chain.specs.Taking.{Suspending, IsTaken, NextGoesOn, Cuts}
 use Rattle.st_chain.proofs.ForkPlaces.{forks_rise}
 use Rattle.st_chain.proofs.Suspending as suspending
@@ -187,7 +183,7 @@ returns-in-Fork-clause-step g c t n code data_is suspends =
     let down = ap (λ (w : Walk). w.machine) c.go_down.ensures in
     let place : c.pc.result ≡ c.in-Some.walk.machine.pc + 4 = c.pc.ensures ∙ ap (λ (m : State). m.pc) down in
     let next = c.chain_at-next.ensures ∙ (λ i. chain_at (down i) (place i) c.taken-chain.result.note waits.Ready) in
-    let machine : c.put_chain.new.m ≡ restarted (chain_at (suspending.downward c.args.image.now t code notes c.in-Some.walk.machine c.in-Fork.handle c.taken-chain.result.cell) (c.in-Some.walk.machine.pc + 4) c.taken-chain.result.note waits.Ready) c.args.m.now = c.put_chain.ensures ∙ ap (λ (x : Chain). restarted x c.args.m.now) next in (
+    let machine : c.put_chain.new.m ≡ restarted (chain_at (downward c.in-Some.walk.machine c.in-Fork.handle c.taken-chain.result.cell) (c.in-Some.walk.machine.pc + 4) c.taken-chain.result.note waits.Ready) c.args.m.now = c.put_chain.ensures ∙ ap (λ (x : Chain). restarted x c.args.m.now) next in (
       left,
       c.pop-top.ensures.stays ∙ c.take.ensures.after,
       subst (λ (m : State). Cuts (λ x a b. StepMade g.B.Board.view g.B.Board.serves g.B.Board.says g.B.Board.did g.N.NamesView.after c.args.board.now c.args.w x a b) c.args.board.now t t.below c.cut.new.board (λ held. IsTaken t held c.taken-chain.result c.args.s.now × NextGoesOn t held t.below t.below_frames c.args.m.now m)) (sym machine)
