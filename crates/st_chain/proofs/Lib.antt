@@ -9,3 +9,5 @@ pub mod Joining
 pub mod Walked
 pub mod Suspending
 pub mod Giving
+pub mod Few
+pub mod KeepingLaw

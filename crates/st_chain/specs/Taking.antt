@@ -2,7 +2,7 @@
 -- lie. Read Taking (all that is said of one taking: the worker's threads with their frames, which one is taken, and the words, names and exported
 -- frames), MaySuspend and MayGive (what a step asks), and SuspendStep and GiveStep (what it comes to). No start of a taking is remembered: a
 -- step says that whatever its state leads to, the state after it leads to, or is.
-use Rattle.std.specs.Prelude.{◌≡◌, ◌≢◌, ◌⊎◌, ℕ, suc, ◌+◌, ◌*◌, ◌≤◌, true, false, nat_lt, List, [], ◌∷◌, ◌++◌, length, Option, Some, None, slice_set, if◌then◌else◌}
+use Rattle.std.specs.Prelude.{◌≡◌, ◌≢◌, ◌⊎◌, ℕ, suc, ◌+◌, ◌*◌, ◌≤◌, Bool, true, false, nat_lt, List, [], ◌∷◌, ◌++◌, length, Option, Some, None, slice_set, if◌then◌else◌}
 use Rattle.std.specs.List.{Contains}
 use Rattle.st_base.specs.declared.chain.Chain.{Chain}
 use Rattle.st_base.specs.declared.chain.Frame.{Frame}
@@ -20,8 +20,9 @@ use Rattle.st_model.specs.Effect.{File}
 use Rattle.st_model.specs.Layout.{IsCodeOf}
 use Rattle.st_model.specs.Memory.{Data}
 use Rattle.st_words.specs.declared.view.Known.{Known}
-use Rattle.st_words.specs.Steps.{Step, StackLoad, StackStore, Answer, Done}
-use Rattle.st_stack.specs.Exported.{Exports, IsFrameOn, MayExport}
+use Rattle.st_words.specs.Steps.{Step, StackLoad, StackStore, Answer, return_place, Done}
+use Rattle.st_stack.specs.Exported.{Exports, IsFrameOn, MayExport, Apart, IsLimit}
+use Rattle.st_stack.specs.FrameLaw.{FrameLaw}
 use Rattle.st_step.specs.declared.state.State.{State}
 use Rattle.st_step.specs.Frames.{is_kept, value_in}
 use Rattle.st_step.specs.Moves.{register}
@@ -319,3 +320,18 @@ abbrev pub TakesFew : Type 0
 TakesFew =
     ((t : Taking) (notes : List Note) (m : State) (s : Exports) (wait : Waiting) (n : ℕ) → CanSuspend t notes m s wait n → n ≤ 20 * length t.frames + 8)
     × ((t : Taking) (notes : List Note) (m : State) (s : Exports) (n : ℕ) → CanGive t notes m s n → n ≤ 20 * length (joined (frames_of t)) + 8)
+
+-- what a taking makes of the exported frames of a stack and of the worker's own: a frame that is exported now was so or is the worker's, none of those
+-- is exported no more, and one that isn't the worker's any more is exported. The worker's frames were not left for ever
+pub record ExportsOwn (is_zero : ℕ → Bool) (exported exported' own own' : List Frame) : Type 0 where
+  pub stay : (g : Frame) → Contains exported g → Contains exported' g
+  pub come : (g : Frame) → Contains exported' g → Contains exported g ⊎ Contains own g
+  pub gone : (g : Frame) → Contains own g → Contains own' g ⊎ Contains exported' g
+  pub left : (g : Frame) → Contains own' g → Contains own g
+  pub lives : (g : Frame) → Contains own g → is_zero (return_place g) ≡ false
+  pub apart : (f g : Frame) → Contains exported' f → Contains exported' g → f ≢ g → Apart f g
+
+-- it keeps the law of frames on the stack, with sp where it was: while the taking goes on the thread that is taken counts among the worker's, and at its
+-- end no longer
+abbrev pub KeepsFrameLaw : Type 0
+KeepsFrameLaw = (is_zero : ℕ → Bool) (hi sp n : ℕ) (exported exported' live own own' : List Frame) → IsLimit hi exported n → sp ≤ hi → ExportsOwn is_zero exported exported' own own' → FrameLaw is_zero hi sp exported live own → FrameLaw is_zero hi sp exported' live own'

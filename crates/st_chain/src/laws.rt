@@ -1,4 +1,5 @@
 //! Laws of threads in memory: each is the contract of a function with an empty body.
+ghost use Rattle.st_chain.specs.Taking.{TakesFew, KeepsFrameLaw};
 ghost use Rattle.st_chain.specs.Laws.{StandsSame, LowerSame, OlderUnseen, ThreadCut, CopiesGive, Restarts, RestartStands};
 
 /// Of a lone thread only the words of its frames, the registers that a call keeps and its names are read.
@@ -34,4 +35,15 @@ pub fn restarts()
 /// A machine that goes on with a chain stands for the chain's thread.
 pub fn restart_stands()
     ensures { RestartStands }
+{}
+
+/// Suspending the top thread takes at most 20 steps for each of its frames and 8 more, and giving the bottom one as many for each frame of all
+/// threads.
+pub fn takes_few()
+    ensures { TakesFew }
+{}
+
+/// A taking keeps the law of frames on its stack: what it exports is the worker's, and what the worker has no more is exported.
+pub fn taking_keeps_law()
+    ensures { KeepsFrameLaw }
 {}
