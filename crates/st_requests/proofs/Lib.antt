@@ -3,3 +3,4 @@ pub mod Mails
 pub mod ViewsAfter
 pub mod Steps
 pub mod Follows
+pub mod Firsts

@@ -1,9 +1,11 @@
 -- The laws of requests and mail, over worlds. Read Kept (each kind of step of a worker keeps them, whatever is answered) and SlotLaws (who may take from a mail
 -- slot finds it filled, and who may put into one finds it empty), ToldLaws (what loads promise) and MoveLaws (what a worker does between steps).
-use Rattle.std.specs.Prelude.{◌≡◌, ℕ, ◌<◌, List, Some, None}
+use Rattle.std.specs.Prelude.{◌≡◌, ℕ, ◌/◌, ◌≤◌, ◌<◌, List, Some, None}
 use Rattle.st_base.specs.declared.chain.Chain.{Chain}
 use Rattle.st_base.specs.declared.chain.Frame.{Frame}
 use Rattle.st_base.specs.declared.chain.Waiting.{Waiting}
+use Rattle.st_base.specs.declared.limits.Limits.{Limits}
+use Rattle.st_base.specs.declared.thread.Thread.{Thread}
 use Rattle.st_words.specs.declared.view.Slot.TheVariants.{Mail}
 use Rattle.st_words.specs.declared.view.Known.{Known}
 use Rattle.st_words.specs.declared.view.Carried.{Carried}
@@ -12,7 +14,9 @@ use Rattle.st_words.specs.Steps.{Step, Answer, Number, RequestLoad, MailLoad, Ca
 use Rattle.st_words.specs.Promises.{Promises}
 use Rattle.st_words.specs.Views.{Progress, with_progress, Does}
 use Rattle.st_words.specs.Moves.{suspending, giving, restarting, beginning, exporting}
+use Rattle.st_words.specs.Plain.{first_words, first_cargoes, first_views}
 use Rattle.st_world.specs.World.{World, seen, Finds, world_after}
+use Rattle.st_world.specs.OfPlain.{world_of}
 use Rattle.st_requests.specs.Mailing.{Requests}
 
 abbrev pub Kept : Type 0
@@ -34,3 +38,7 @@ pub record MoveLaws : Type 0 where
   pub restarts : (x : World) (w : ℕ) (carried : Carried) → Requests x → Requests (seen w (restarting carried (x.view w)) x)
   pub begins : (x : World) (w : ℕ) (child parent : Known) (rest : List Known) → Requests x → Requests (seen w (beginning child parent rest (x.view w)) x)
   pub exports : (x : World) (w : ℕ) (f : Frame) → Requests x → Requests (seen w (exporting f (x.view w)) x)
+
+-- a board that is opened has them, for at most 31 workers
+abbrev pub First : Type 0
+First = (limits : Limits) (workers : ℕ) (thread : Thread) → workers ≤ 31 → Requests (world_of (limits.stack / 8) (first_words limits workers) (first_cargoes limits workers thread) (first_views limits workers))

@@ -1,5 +1,5 @@
 //! Requests and mail are kept by all that workers do, and what follows from them: laws without code.
-ghost use Rattle.st_requests.specs.Laws.{Kept, SlotLaws, ToldLaws, MoveLaws};
+ghost use Rattle.st_requests.specs.Laws.{Kept, SlotLaws, ToldLaws, MoveLaws, First};
 
 /// Each of the kinds of step of a worker keeps the requests and the mail, whatever is answered.
 pub fn steps_keep()
@@ -19,4 +19,9 @@ pub fn told_laws()
 /// What a worker does between its steps keeps them.
 pub fn moves_keep()
     ensures { MoveLaws }
+{}
+
+/// On a board that is opened no request stands, and each mail slot is empty.
+pub fn first_requests()
+    ensures { First }
 {}
