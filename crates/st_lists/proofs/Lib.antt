@@ -15,3 +15,4 @@ pub mod Words
 pub mod States
 pub mod Moves
 pub mod Tidies
+pub mod Changing

@@ -1,4 +1,5 @@
--- The laws of numbers and lists, over worlds. Read MoveLaws (what a worker does between steps keeps them) and ViewLaws (what is always so of a view).
+-- The laws of numbers and lists, over worlds. Read MoveLaws (what a worker does between steps keeps them) and ViewLaws (what is always so of a view), and WordLaws
+-- (the steps on State, Next, Owner and Root words).
 -- Tends is what a careful step keeps of the lists, and IsKnown what others know of it.
 use Rattle.std.specs.Prelude.{◌≡◌, ◌⊎◌, ℕ, ◌+◌, ◌<◌, true, false, List, Some}
 use Rattle.std.specs.List.{Contains}
@@ -12,11 +13,11 @@ use Rattle.st_words.specs.declared.view.Carried.{Carried}
 use Rattle.st_words.specs.declared.view.Waiter.{Waiter}
 use Rattle.st_words.specs.declared.view.View.{View}
 use Rattle.st_words.specs.Encodings.{is_counter, full_word, count_in, head_in, counter_word, ready}
-use Rattle.st_words.specs.Steps.{Step, CellStore, CellChange, SlotTake, SlotPut, HasInHand, IsFuture, IsCounter, IsDone}
+use Rattle.st_words.specs.Steps.{Step, CellLoad, CellStore, CellChange, RootTake, SlotTake, SlotPut, Done, Number, Can, HasInHand, IsFuture, IsCounter, IsDone}
 use Rattle.st_words.specs.Careful.{InHand}
-use Rattle.st_words.specs.Views.{Progress, with_progress, counts_cell, owner_seen}
+use Rattle.st_words.specs.Views.{Progress, with_progress, counts_cell, owner_seen, Does}
 use Rattle.st_words.specs.Moves.{suspending, giving, restarting, beginning, exporting}
-use Rattle.st_world.specs.World.{World, seen}
+use Rattle.st_world.specs.World.{World, seen, Finds, world_after}
 use Rattle.st_lists.specs.Listing.{Nowhere, Held, Once, Lists}
 
 -- ---- what a careful step keeps of the lists
@@ -77,3 +78,11 @@ pub record ViewLaws : Type 0 where
   pub below : (x : World) (w c : ℕ) → Lists x → w < x.workers → HasInHand (x.view w) c ⊎ Contains (x.view w).ready c → c < (x.view w).cells
   -- a Next word is stored only after what was behind the waiter is known
   pub linked : (x : World) (w : ℕ) (y : Waiter) (n : ℕ) → Lists x → Contains (x.view w).hand y → y.next ≡ Some n → y.leads ≡ false
+
+-- the steps on State, Next and Owner words and on the Root word keep the lists, whatever is answered, where they are careful and what others know is so
+pub record WordLaws : Type 0 where
+  pub changes : (x : World) (l : Lists x) (w c old new n : ℕ) (v : View) → w < x.workers → Can (x.view w) (CellChange c old new) → Tends (x.view w) (CellChange c old new) → IsKnown x l w (CellChange c old new) → Finds x w (CellChange c old new) (Number n) → Does (x.view w) (CellChange c old new) (Number n) v → Lists (world_after x w (CellChange c old new) (Number n) v)
+  pub follows : (x : World) (l : Lists x) (w c n : ℕ) (v : View) → w < x.workers → Finds x w (CellLoad c Next) (Number n) → Does (x.view w) (CellLoad c Next) (Number n) v → Lists (world_after x w (CellLoad c Next) (Number n) v)
+  pub links : (x : World) (l : Lists x) (w c n : ℕ) (v : View) → w < x.workers → Tends (x.view w) (CellStore c Next n) → Does (x.view w) (CellStore c Next n) Done v → Lists (world_after x w (CellStore c Next n) Done v)
+  pub names : (x : World) (l : Lists x) (w c n : ℕ) (v : View) → w < x.workers → IsKnown x l w (CellStore c Owner n) → Does (x.view w) (CellStore c Owner n) Done v → Lists (world_after x w (CellStore c Owner n) Done v)
+  pub takes : (x : World) (l : Lists x) (w n : ℕ) (v : View) → w < x.workers → Finds x w RootTake (Number n) → Does (x.view w) RootTake (Number n) v → Lists (world_after x w RootTake (Number n) v)
