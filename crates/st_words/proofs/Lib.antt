@@ -15,7 +15,6 @@ pub mod Leases
 pub mod Trying
 pub mod Rooting
 pub mod ZeroedLists
-pub mod RunAsks
 pub mod Safe
 pub mod Waiting
 pub mod Starting

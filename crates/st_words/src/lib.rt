@@ -2,7 +2,7 @@
 //!
 //! - `board::Board` is the contract of a board, over one view for each worker; `view::View` is what a view keeps.
 //! - `calls` has steps as calls of their own, for those who are generic over their board.
-//! - `run` has boards for a program, what a step asks there, and that each step of a right worker may be made.
+//! - `run` has what a program means to a board, and that each step of a right worker may be made.
 //! - `laws` has what is known of the view after a step, for those who name it.
 //! - `words::Words` has the words and slots as a plain value, and what each step does to them.
 //! - `zeroed::ZeroedWords` has words that are 0 until they are stored, whose memory is touched late: those of the output.

@@ -1,5 +1,5 @@
 use Rattle.st_words.specs.Views.{view_after, no_cargo}
-use Rattle.st_words.proofs.run.take_ready.Given as goal
+use Rattle.st_run.proofs.run.take_ready.Given as goal
 
 -- the step and nothing else
 abbrev pub ghosts-slot_take_by : goal.ghosts-slot_take_by

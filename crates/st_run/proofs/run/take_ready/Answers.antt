@@ -4,8 +4,8 @@ use Rattle.st_words.specs.declared.view.Slot.TheVariants.{Cell}
 use Rattle.st_words.specs.Steps.{SlotTake, Took}
 use Rattle.st_words.specs.Views.{view_after}
 use Rattle.st_words.specs.Laws.{does_alone}
-use Rattle.st_words.proofs.RunAsks.{run_asks, run_leaves, may_ready}
-use Rattle.st_words.proofs.run.take_ready.Goals as goal
+use Rattle.st_run.proofs.RunAsks.{run_asks, run_leaves, may_ready}
+use Rattle.st_run.proofs.run.take_ready.Goals as goal
 
 pub slot_take_by-requires : goal.slot_take_by-requires
 slot_take_by-requires g c =
