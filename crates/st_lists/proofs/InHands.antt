@@ -56,10 +56,10 @@ no_number c (d ∷ ds) f =
 abbrev pub entry_of : ℕ → Waiting → Waiter
 entry_of c k = record { cell = c; wait = Some k; next = None; leads = false }
 
--- the hand is as before, or the number comes into it
-pub waiter_case : (c : ℕ) (k : Waiting) (h : List Waiter) → (waiter_of c k h ≡ h) ⊎ ((HandHas h c → ⊥) × (waiter_of c k h ≡ entry_of c k ∷ h))
-waiter_case c waits.Start h = inl refl
-waiter_case c waits.Ready h = inl refl
-waiter_case c waits.Trapped h = inl refl
-waiter_case c (waits.Touch e) h = ⊎_elim (λ r. inl (ap (λ (b : Bool). cond b h (entry_of c (waits.Touch e) ∷ h)) r.1)) (λ r. inr (r.0, ap (λ (b : Bool). cond b h (entry_of c (waits.Touch e) ∷ h)) r.1)) (hand_case c h)
-waiter_case c (waits.Join e n) h = ⊎_elim (λ r. inl (ap (λ (b : Bool). cond b h (entry_of c (waits.Join e n) ∷ h)) r.1)) (λ r. inr (r.0, ap (λ (b : Bool). cond b h (entry_of c (waits.Join e n) ∷ h)) r.1)) (hand_case c h)
+-- a number that is in the hand stays as it is
+pub waiter_there : (c : ℕ) (k : Waiting) (h : List Waiter) → in_hand c h ≡ true → waiter_of c k h ≡ h
+waiter_there c waits.Start h e = refl
+waiter_there c waits.Ready h e = refl
+waiter_there c waits.Trapped h e = refl
+waiter_there c (waits.Touch f) h e = ap (λ (b : Bool). cond b h (entry_of c (waits.Touch f) ∷ h)) e
+waiter_there c (waits.Join f n) h e = ap (λ (b : Bool). cond b h (entry_of c (waits.Join f n) ∷ h)) e

@@ -5,6 +5,7 @@ pub mod Untouched
 pub mod Singles
 pub mod Parks
 pub mod Handing
+pub mod Passing
 pub mod Nexts
 pub mod Follows
 pub mod Fills
@@ -13,6 +14,10 @@ pub mod Wholes
 pub mod InHands
 pub mod Words
 pub mod States
+pub mod Slots
+pub mod Steps
 pub mod Moves
 pub mod Tidies
-pub mod Changing
+pub mod Told
+pub mod Firsts
+pub mod Cautious

@@ -1,9 +1,9 @@
 -- Lists that the Next words spell. spells_same, list_same: nothing of the list changes; list_cons: a number is put before it.
-use Rattle.std.proofs.Common.{◌≡◌, ◌≢◌, ◌⊎◌, inl, inr, ℕ, suc, ◌≤◌, ◌<◌, Bool, cond, List, [], ◌∷◌, length, Option, Some, None, refl, sym, ap, ◌∙◌, subst, arith, eq-eqb, ne_eqb, ◌==◌}
+use Rattle.std.proofs.Common.{◌≡◌, ◌≢◌, ◌⊎◌, inl, inr, ℕ, suc, ◌≤◌, ◌<◌, Bool, true, false, cond, List, [], ◌∷◌, length, Option, Some, None, refl, sym, ap, ◌∙◌, subst, arith, eq-eqb, ne_eqb, ◌==◌}
 use mathlib.Core.Logic.{dite}
 use native.Mathlib.Decide.{ℕ_discrete}
 use Rattle.st_world.specs.Functions.{put}
-use Rattle.st_lists.specs.Listing.{Spot, Held, Behind, Among, Spells, IsList}
+use Rattle.st_lists.specs.Listing.{Spot, Held, Behind, Among, Spells, IsList, head_by}
 use Rattle.st_world.proofs.Functions.{put_here, put_other}
 
 pub spells_same : (next next' : ℕ → ℕ) (spot spot' at at' : ℕ → Spot) (word : ℕ) (ds : List ℕ) (bound : ℕ) → length ds ≤ bound → ((d k : ℕ) → k < bound → spot d ≡ at k → (spot' d ≡ at' k) × (next' d ≡ next d)) → Spells next spot at word ds → Spells next' spot' at' word ds
@@ -72,3 +72,8 @@ rest_of next spot at x ([], h, m) = let no : ⊥ = omega (arith, h) in absurd no
 rest_of next spot at x (y ∷ es, h, m) =
     let e : y ≡ x = let s = h.0 in omega (arith, s) in
     (es, subst (λ (z : ℕ). Spells next spot at (suc x) (z ∷ es)) e h, subst (λ (z : ℕ). (d k : ℕ) → spot d ≡ at k → Among d (z ∷ es)) e m)
+
+-- a State word 0 has no head
+pub head_zero : (b : Bool) → head_by b 0 ≡ 0
+head_zero true = refl
+head_zero false = refl

@@ -1,14 +1,12 @@
--- One number goes into a hand, is linked, becomes ready, or goes out with its chain.
-use Rattle.std.proofs.Common.{◌≡◌, ◌≢◌, ⊎_elim, ℕ, ◌<◌, Bool, true, false, cond, not, List, [], ◌∷◌, map, Option, Some, None, refl, sym, ap, ◌∙◌, subst, eq-eqb, ne_eqb, ◌==◌}
+-- One number goes into a hand, is linked, becomes ready, or goes out with its chain; what a chain waits for is seen.
+use Rattle.std.proofs.Common.{◌≡◌, ◌≢◌, ⊎_elim, ℕ, ◌<◌, Bool, true, false, cond, not, List, [], ◌∷◌, map, Option, Some, None, refl, sym, ap, ◌∙◌, subst, eq-eqb, ◌==◌}
 use Rattle.std.specs.List.{Contains}
-use mathlib.Core.Logic.{dite}
-use native.Mathlib.Decide.{ℕ_discrete}
 use Rattle.st_base.specs.declared.chain.Waiting.{Waiting}
 use Rattle.st_words.specs.declared.view.Waiter.{Waiter}
 use Rattle.st_words.specs.Views.{linked, seen_waiting, without_waiter, without_number}
-use Rattle.st_words.proofs.Lists.{contains_here, contains_later, contains_case, contains_none, filter_in, filter_out, other_true, other_false}
+use Rattle.st_words.proofs.Lists.{contains_here, contains_later, contains_case, contains_none, filter_in, filter_out, other_true, other_false, same_true}
 use Rattle.st_world.specs.Functions.{put}
-use Rattle.st_lists.specs.Listing.{Spot, Nowhere, Listed, Held, Behind, Readied, Rooted, HandHas, Once, IsTail, EntryHolds, HandHolds, ReadyHolds, Listing, head_by, Alike}
+use Rattle.st_lists.specs.Listing.{Spot, Nowhere, Listed, Held, Behind, Readied, Rooted, HandHas, Once, IsTail, EntryHolds, HandHolds, ReadyHolds, Listing, head_by, IsOpen, Alike}
 use Rattle.st_world.proofs.Functions.{put_here, put_other, put_case, put_keeps, put_was, put_all}
 use Rattle.st_lists.proofs.Lists.{list_same}
 use Rattle.st_lists.proofs.Apart.{held_listed, held_behind, held_readied, readied_listed, readied_held, readied_behind, nowhere_listed, nowhere_held, nowhere_behind, nowhere_readied, rooted_listed, rooted_held, rooted_readied}
@@ -40,10 +38,6 @@ hand_map workers spot spot' wait next next' w f hand c e back ok = record {
 
 -- ---- a Next word is stored
 
-with_next_word : ℕ → Bool → Waiter → Waiter
-with_next_word n true x = record x { next = Some n }
-with_next_word n false x = x
-
 pub set_next : (workers : ℕ) (spot : ℕ → Spot) (wait : ℕ → Waiting) (next : ℕ → ℕ) (counter : ℕ → Bool) (state : ℕ → ℕ) (hand : ℕ → List Waiter) (ready : ℕ → List ℕ) (L : Listing workers spot wait next counter state hand ready) (w c n : ℕ) → HandHas (hand w) c → ((x : Waiter) → Contains (hand w) x → x.cell ≡ c → x.leads ≡ false) →
     Listing workers spot wait (put next c n) counter state (put hand w (linked c n (hand w))) ready
 set_next workers spot wait next counter state hand ready L w c n has none =
@@ -66,15 +60,12 @@ set_next workers spot wait next counter state hand ready L w c n has none =
     cell_of true x = refl
     cell_of false x = refl
 
-    is : (x : Waiter) → (x.cell == c) ≡ true → x.cell ≡ c
-    is x q = dite (ℕ_discrete x.cell c) (λ s. s) (λ (d : x.cell ≢ c). let f = ne_eqb x.cell c d in let no : ⊥ = cc in absurd no)
-
     isnt : (x : Waiter) → (x.cell == c) ≡ false → x.cell ≢ c
     isnt x q s = let f = eq-eqb x.cell c s in let no : ⊥ = cc in no
 
     by : (x : Waiter) → EntryHolds workers spot wait next w x → (x.cell ≡ c → x.leads ≡ false) → ((d : ℕ) (s : Spot) → spot d ≡ s → Held w ≢ s → put next c n d ≡ next d) → (b : Bool) → (x.cell == c) ≡ b → EntryHolds workers spot wait (put next c n) w (cond b (record x { next = Some n }) x)
     by x o l other true q =
-        let s = is x q in
+        let s = same_true x.cell c q in
         record {
           held = o.held;
           tail = subst (λ (b : Bool). IsTail workers spot wait (put next c n) w x.cell b) (sym (l s)) (λ d k z. no_tail x o (l s) d k z);
@@ -91,18 +82,17 @@ set_next workers spot wait next counter state hand ready L w c n has none =
 abbrev waiting_at : ℕ → Waiting → Waiter → Waiter
 waiting_at c k x = cond (x.cell == c) (record x { wait = Some k }) x
 
-pub hand_seen : (workers : ℕ) (spot spot' : ℕ → Spot) (wait : ℕ → Waiting) (next : ℕ → ℕ) (w c : ℕ) (k : Waiting) (hand : List Waiter) → wait c ≡ k → HandHolds workers spot' wait next w hand → HandHolds workers spot' wait next w (seen_waiting c k hand)
-hand_seen workers spot spot' wait next w c k hand e ok = hand_map workers spot' spot' wait next next w (waiting_at c k) hand (λ x. cell_of (x.cell == c) x) (λ x m. by x (x.cell == c) refl (ok.entries x m)) (λ d q. q) ok
+pub hand_seen : (workers : ℕ) (spot : ℕ → Spot) (wait : ℕ → Waiting) (next : ℕ → ℕ) (w c : ℕ) (k : Waiting) (hand : List Waiter) → (spot c ≡ Held w → wait c ≡ k) → HandHolds workers spot wait next w hand → HandHolds workers spot wait next w (seen_waiting c k hand)
+hand_seen workers spot wait next w c k hand known ok = hand_map workers spot spot wait next next w (waiting_at c k) hand (λ x. cell_of (x.cell == c) x) (λ x m. by x (x.cell == c) refl (ok.entries x m)) (λ d q. q) ok
   where
     cell_of : (b : Bool) (x : Waiter) → (cond b (record x { wait = Some k }) x).cell ≡ x.cell
     cell_of true x = refl
     cell_of false x = refl
 
-    is : (x : Waiter) → (x.cell == c) ≡ true → x.cell ≡ c
-    is x q = dite (ℕ_discrete x.cell c) (λ s. s) (λ (d : x.cell ≢ c). let f = ne_eqb x.cell c d in let no : ⊥ = cc in absurd no)
-
-    by : (x : Waiter) (b : Bool) → (x.cell == c) ≡ b → EntryHolds workers spot' wait next w x → EntryHolds workers spot' wait next w (cond b (record x { wait = Some k }) x)
-    by x true q o = record { held = o.held; tail = o.tail; linked = o.linked; told = λ j z. let t : k ≡ j = cc in ap wait (is x q) ∙ (e ∙ t) }
+    by : (x : Waiter) (b : Bool) → (x.cell == c) ≡ b → EntryHolds workers spot wait next w x → EntryHolds workers spot wait next w (cond b (record x { wait = Some k }) x)
+    by x true q o =
+        let s : x.cell ≡ c = same_true x.cell c q in
+        record { held = o.held; tail = o.tail; linked = o.linked; told = λ j z. let t : k ≡ j = cc in ap wait s ∙ (known (subst (λ (d : ℕ). spot d ≡ Held w) s o.held) ∙ t) }
     by x false q o = o
 
 -- ---- one number, whose spot is in no list before and after
@@ -117,6 +107,26 @@ module _ (workers : ℕ) (spot : ℕ → Spot) (wait : ℕ → Waiting) (next : 
     behind = behind;
     readies = readies;
   }
+
+  -- what a number waits for that is nowhere isn't read
+  pub waits_anew : (c : ℕ) (k : Waiting) → spot c ≡ Nowhere → Listing workers spot (put wait c k) next counter state hand ready
+  waits_anew c k e =
+      let same : (d : ℕ) (s : Spot) → spot d ≡ s → Nowhere ≢ s → wait d ≡ put wait c k d = λ d s q n. sym (put_other wait c k d (λ z. n (sym e ∙ (ap spot (sym z) ∙ q)))) in
+      record {
+        lists = L.lists;
+        waiting = λ d f j q. subst (λ (t : Waiting). IsOpen (counter f) (state f) f t) (same d (Listed f j) q (λ z. nowhere_listed z)) (L.waiting d f j q);
+        hands = λ v. record {
+          once = (L.hands v).once;
+          entries = λ y m.
+              let o = (L.hands v).entries y m in
+              record { held = o.held; tail = o.tail; linked = o.linked; told = λ j q. sym (same y.cell (Held v) o.held (λ z. nowhere_held z)) ∙ o.told j q };
+          has = (L.hands v).has;
+        };
+        behind = λ d v m j q.
+            let b = L.behind d v m j q in
+            (b.0, subst (λ (t : Waiting). Alike t (put wait c k d)) (same m (Held v) b.0 (λ z. nowhere_held z)) (subst (λ (t : Waiting). Alike (wait m) t) (same d (Behind v m j) q (λ z. nowhere_behind z)) b.1));
+        readies = λ v. record { of = (L.readies v).of; has = (L.readies v).has };
+      }
 
   -- the number of a chain that is put comes into the hand
   pub into_hand : (w c : ℕ) → w < workers → spot c ≡ Nowhere → Listing workers (put spot c (Held w)) wait next counter state (put hand w (record { cell = c; wait = Some (wait c); next = None; leads = false } ∷ hand w)) ready
@@ -165,14 +175,22 @@ module _ (workers : ℕ) (spot : ℕ → Spot) (wait : ℕ → Waiting) (next : 
       }))
       (λ (q : v ≢ w). ready_put workers spot wait next c (Readied w) v (ready v) (λ z. held_readied (sym e ∙ z)) (λ z. let t : w ≡ v = cc in q (sym t)) (L.readies v)))
 
+  -- what a chain waits for is seen
+  pub hand_told : (w c : ℕ) (k : Waiting) → (spot c ≡ Held w → wait c ≡ k) → Listing workers spot wait next counter state (put hand w (seen_waiting c k (hand w))) ready
+  hand_told w c k known = record {
+    lists = L.lists;
+    waiting = L.waiting;
+    hands = λ v. put_all (λ (u : ℕ) (h : List Waiter). HandHolds workers spot wait next u h) hand w (seen_waiting c k (hand w)) v
+        (λ (q : v ≡ w). subst (λ (u : ℕ). HandHolds workers spot wait next u (seen_waiting c k (hand w))) (sym q) (hand_seen workers spot wait next w c k (hand w) known (L.hands w)))
+        (λ (q : v ≢ w). L.hands v);
+    behind = L.behind;
+    readies = L.readies;
+  }
+
   -- a ready chain is taken: its number is nowhere
-  pub take_ready : (w c : ℕ) (k : Waiting) → spot c ≡ Readied w → wait c ≡ k → Listing workers (put spot c Nowhere) wait next counter state (put hand w (seen_waiting c k (hand w))) (put ready w (without_number c (ready w)))
-  take_ready w c k e known =
-      let untouched : (v : ℕ) → HandHolds workers (put spot c Nowhere) wait next v (hand v) = λ v. hand_stays workers spot (put spot c Nowhere) wait next next v (hand v) (untouched_put workers spot wait next c Nowhere v (λ z. subst (Mine v) e z) (λ z. z)) (L.hands v) in
-      single c Nowhere (put hand w (seen_waiting c k (hand w))) (put ready w (without_number c (ready w))) (λ f j q. readied_listed (sym e ∙ q)) (λ f j q. nowhere_listed q)
-      (λ v. put_all (λ (u : ℕ) (h : List Waiter). HandHolds workers (put spot c Nowhere) wait next u h) hand w (seen_waiting c k (hand w)) v
-      (λ (q : v ≡ w). subst (λ (u : ℕ). HandHolds workers (put spot c Nowhere) wait next u (seen_waiting c k (hand w))) (sym q) (hand_seen workers spot (put spot c Nowhere) wait next w c k (hand w) known (untouched w)))
-      (λ (q : v ≢ w). untouched v))
+  pub take_ready : (w c : ℕ) → spot c ≡ Readied w → Listing workers (put spot c Nowhere) wait next counter state hand (put ready w (without_number c (ready w)))
+  take_ready w c e = single c Nowhere hand (put ready w (without_number c (ready w))) (λ f j q. readied_listed (sym e ∙ q)) (λ f j q. nowhere_listed q)
+      (λ v. hand_stays workers spot (put spot c Nowhere) wait next next v (hand v) (untouched_put workers spot wait next c Nowhere v (λ z. subst (Mine v) e z) (λ z. z)) (L.hands v))
       (λ f v m j q. let b = L.behind f v m j (put_was spot c Nowhere f (Behind v m j) q (λ t. nowhere_behind t)) in (put_keeps spot c Nowhere m (Held v) b.0 (λ z. readied_held (sym e ∙ z)), b.1))
       (λ v. put_all (λ (u : ℕ) (r : List ℕ). ReadyHolds workers (put spot c Nowhere) wait next u r) ready w (without_number c (ready w)) v
       (λ (q : v ≡ w). subst (λ (u : ℕ). ReadyHolds workers (put spot c Nowhere) wait next u (without_number c (ready w))) (sym q) (record {

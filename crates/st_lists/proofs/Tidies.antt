@@ -5,7 +5,7 @@ use Rattle.st_world.specs.World.{World}
 use Rattle.st_lists.specs.Listing.{Held, Lists}
 use Rattle.st_lists.specs.Laws.{ViewLaws}
 
-held : (x : World) (w c : ℕ) (G : Lists x) → HasInHand (x.view w) c → G.spot c ≡ Held w
+pub held : (x : World) (w c : ℕ) (G : Lists x) → HasInHand (x.view w) c → G.spot c ≡ Held w
 held x w c G h = subst (λ (z : ℕ). G.spot z ≡ Held w) h.2 ((G.listing.hands w).entries h.0 h.1).held
 
 pub view_laws : ViewLaws

@@ -1,5 +1,5 @@
 -- The group anew from its parts, where one view is changed: rebuilt; and what the change of a spot leaves of the root and of the numbers below the
--- number of cells. quiet_world is for all that changes nothing that is read.
+-- number of cells. quiet_view is for all that changes nothing that is read.
 use Rattle.std.proofs.Common.{◌≡◌, ◌≢◌, ℕ, ◌<◌, Bool, List, Option, Some, None, refl, sym, ◌∙◌, subst}
 use mathlib.Core.Logic.{dite}
 use native.Mathlib.Decide.{ℕ_discrete}
@@ -10,6 +10,8 @@ use Rattle.st_world.specs.Functions.{put}
 use Rattle.st_world.specs.World.{World, seen}
 use Rattle.st_world.proofs.Functions.{put_other, put_keeps, put_was, put_all, put_part, put_same, function_same}
 use Rattle.st_lists.specs.Listing.{Spot, Nowhere, Rooted, Listing, Rooting, Numbers, Lists, hands, readies, finders, counters}
+use Rattle.st_lists.specs.Going.{Stays}
+use Rattle.st_lists.specs.Laws.{Staying}
 use Rattle.st_lists.proofs.ViewsAfter.{SameParts}
 
 -- a part of the views is put, or stays
@@ -23,19 +25,24 @@ module _ (workers cells : ℕ) (owner state next : ℕ → ℕ) (root : ℕ) (vi
   sized : v.cells ≡ (view w).cells → (u : ℕ) → u < workers → (put view w v u).cells ≡ cells
   sized e u l = put_all (λ (k : ℕ) (y : View). k < workers → y.cells ≡ cells) view w v u (λ q m. e ∙ G.sized w (subst (λ (k : ℕ). k < workers) q m)) (λ q m. G.sized u m) l
 
-  pub rebuilt : (owner' state' next' : ℕ → ℕ) (root' : ℕ) (spot' : ℕ → Spot) (wait' : ℕ → Waiting) (h : ℕ → List Waiter) (r : ℕ → List ℕ) (f : ℕ → Bool) → v.cells ≡ (view w).cells → h ≡ hands (put view w v) → r ≡ readies (put view w v) → f ≡ finders (put view w v) → ((d : ℕ) → spot' d ≢ Nowhere → d < cells) → Listing workers spot' wait' next' (counters owner') state' h r → Rooting spot' root' f → Numbers workers cells owner' state' next' root' (put view w v)
-  rebuilt owner' state' next' root' spot' wait' h r f e p q t below l o = record {
-    spot = spot';
-    wait = wait';
-    few = G.few;
-    below = below;
-    sized = sized e;
-    listing = subst (λ (x : ℕ → List ℕ). Listing workers spot' wait' next' (counters owner') state' (hands (put view w v)) x) q (subst (λ (x : ℕ → List Waiter). Listing workers spot' wait' next' (counters owner') state' x r) p l);
-    rooting = subst (λ (x : ℕ → Bool). Rooting spot' root' x) t o;
-  }
+  pub rebuilt : (P : (ℕ → Spot) → (ℕ → Waiting) → Type 0) (owner' state' next' : ℕ → ℕ) (root' : ℕ) (spot' : ℕ → Spot) (wait' : ℕ → Waiting) (h : ℕ → List Waiter) (r : ℕ → List ℕ) (f : ℕ → Bool) → P spot' wait' → v.cells ≡ (view w).cells → h ≡ hands (put view w v) → r ≡ readies (put view w v) → f ≡ finders (put view w v) → ((d : ℕ) → spot' d ≢ Nowhere → d < cells) → Listing workers spot' wait' next' (counters owner') state' h r → Rooting spot' root' f → (n : Numbers workers cells owner' state' next' root' (put view w v)) × P n.spot n.wait
+  rebuilt P owner' state' next' root' spot' wait' h r f so e p q t below l o = (
+    record {
+      spot = spot';
+      wait = wait';
+      few = G.few;
+      below = below;
+      sized = sized e;
+      listing = subst (λ (x : ℕ → List ℕ). Listing workers spot' wait' next' (counters owner') state' (hands (put view w v)) x) q (subst (λ (x : ℕ → List Waiter). Listing workers spot' wait' next' (counters owner') state' x r) p l);
+      rooting = subst (λ (x : ℕ → Bool). Rooting spot' root' x) t o;
+    },
+    so,
+  )
 
-  pub stays : SameParts (view w) v → Numbers workers cells owner state next root (put view w v)
-  stays s = rebuilt owner state next root G.spot G.wait (hands view) (readies view) (finders view) s.3 (part_same (λ (y : View). y.hand) view w v s.0) (part_same (λ (y : View). y.ready) view w v s.1) (part_same (λ (y : View). y.root) view w v s.2) G.below G.listing G.rooting
+-- nothing that is read is changed
+pub quiet_view : (x : World) (l : Lists x) (w : ℕ) (v : View) → SameParts (x.view w) v → Staying x l (seen w v x)
+quiet_view x l w v s = rebuilt x.workers x.cells x.owner x.state x.next x.root x.view l w v (λ t k. Stays l.spot l.wait t k) x.owner x.state x.next x.root l.spot l.wait (hands x.view) (readies x.view) (finders x.view) (λ d. refl, λ d. refl) s.3
+    (part_same (λ (y : View). y.hand) x.view w v s.0) (part_same (λ (y : View). y.ready) x.view w v s.1) (part_same (λ (y : View). y.root) x.view w v s.2) l.below l.listing l.rooting
 
 -- ---- the root
 
@@ -59,21 +66,3 @@ pub below_put : (cells : ℕ) (spot : ℕ → Spot) (d : ℕ) (s : Spot) → d <
 below_put cells spot d s l h e n = dite (ℕ_discrete e d)
     (λ (q : e ≡ d). subst (λ (k : ℕ). k < cells) (sym q) l)
     (λ (q : e ≢ d). h e (λ z. n (put_other spot d s e q ∙ z)))
-
--- ---- nothing that is read is changed
-
-abbrev pub SameWorld : World → World → Type 0
-SameWorld x y = (y.workers ≡ x.workers) × (y.cells ≡ x.cells) × (y.owner ≡ x.owner) × (y.state ≡ x.state) × (y.next ≡ x.next) × (y.root ≡ x.root) × (y.view ≡ x.view)
-
-abbrev pub the_same : (x : World) → SameWorld x x
-the_same x = (refl, refl, refl, refl, refl, refl, refl)
-
-pub quiet_world : (x y : World) (w : ℕ) (v : View) → SameWorld x y → Lists x → SameParts (x.view w) v → Lists (seen w v y)
-quiet_world x y w v s G p =
-    subst (λ (k : ℕ). Numbers k y.cells y.owner y.state y.next y.root (put y.view w v)) (sym s.0)
-    (subst (λ (k : ℕ). Numbers x.workers k y.owner y.state y.next y.root (put y.view w v)) (sym s.1)
-    (subst (λ (f : ℕ → ℕ). Numbers x.workers x.cells f y.state y.next y.root (put y.view w v)) (sym s.2)
-    (subst (λ (f : ℕ → ℕ). Numbers x.workers x.cells x.owner f y.next y.root (put y.view w v)) (sym s.3)
-    (subst (λ (f : ℕ → ℕ). Numbers x.workers x.cells x.owner x.state f y.root (put y.view w v)) (sym s.4)
-    (subst (λ (k : ℕ). Numbers x.workers x.cells x.owner x.state x.next k (put y.view w v)) (sym s.5)
-    (subst (λ (f : ℕ → View). Numbers x.workers x.cells x.owner x.state x.next x.root (put f w v)) (sym s.6) (stays x.workers x.cells x.owner x.state x.next x.root x.view G w v p)))))))

@@ -4,6 +4,7 @@ use Rattle.std.specs.List.{Contains}
 use Rattle.std.specs.Int.{from_bool}
 use mathlib.Core.Logic.{dite}
 use native.Mathlib.Decide.{ℕ_discrete}
+use Rattle.st_base.specs.declared.chain.Waiting.{Waiting}
 use Rattle.st_words.specs.declared.view.CellWord.TheVariants.{Owner, Next}
 use Rattle.st_words.specs.declared.view.Waiter.{Waiter}
 use Rattle.st_words.specs.declared.view.View.{View}
@@ -14,17 +15,19 @@ use Rattle.st_world.specs.Functions.{put}
 use Rattle.st_world.specs.World.{World, seen, with_word}
 use Rattle.st_world.proofs.Functions.{put_here, put_case, put_all}
 use Rattle.st_lists.specs.Listing.{Spot, Nowhere, Listed, Held, Behind, Readied, Rooted, IsList, IsOpen, head_by, HandHas, Listing, Lists, hands, readies, finders, counters}
-use Rattle.st_lists.specs.Laws.{IsLast}
-use Rattle.st_lists.proofs.Apart.{rooted_listed, rooted_behind, rooted_readied}
-use Rattle.st_lists.proofs.Lists.{handed}
+use Rattle.st_lists.specs.Going.{Stays, GoesTo, Passes, GoesRooted}
+use Rattle.st_lists.specs.Laws.{IsLast, Having}
+use Rattle.st_lists.proofs.Apart.{behind_held, rooted_listed, rooted_behind, rooted_readied}
+use Rattle.st_lists.proofs.Lists.{handed, head_zero}
 use Rattle.st_lists.proofs.Ranks.{ranked, ranked_here, ranked_only}
 use Rattle.st_lists.proofs.Handing as handing
 use Rattle.st_lists.proofs.Nexts.{Leads}
 use Rattle.st_lists.proofs.Fills as fills
 use Rattle.st_lists.proofs.Follows as follows
+use Rattle.st_lists.proofs.Passing as passing
 use Rattle.st_lists.proofs.Singles as singles
 use Rattle.st_lists.proofs.InHands.{once_same, leader_case}
-use Rattle.st_lists.proofs.Wholes.{part_eq, part_same, rebuilt, SameRoot, root_same, root_put, below_put, the_same, quiet_world}
+use Rattle.st_lists.proofs.Wholes.{part_eq, part_same, rebuilt, SameRoot, root_same, root_put, below_put, quiet_view}
 
 -- ---- a list is handed out
 
@@ -39,8 +42,12 @@ module _ (x : World) (G : Lists x) (w : ℕ) (less : w < x.workers) (pr : Progre
   abbrev u : View
   u = x.view w
 
-  abbrev pub With : View → World → Type 0
-  With v y = Lists (seen w (with_progress pr v) y)
+  -- what a step leaves, with the view after it, and P holds of where the numbers are then
+  abbrev pub With : View → World → ((ℕ → Spot) → (ℕ → Waiting) → Type 0) → Type 0
+  With v y P = Having (seen w (with_progress pr v) y) P
+
+  abbrev Reads : View → Type 0
+  Reads v = With v x (λ s k. Passes G.spot G.wait s k w u)
 
   -- in the hand of the worker
   pub held_at : (c : ℕ) → HandHas u.hand c → G.spot c ≡ Held w
@@ -54,47 +61,48 @@ module _ (x : World) (G : Lists x) (w : ℕ) (less : w < x.workers) (pr : Progre
 
   -- ---- a Next word is read
 
-  next_none : (v : View) (c : ℕ) (l : Waiter) → Leads u.hand c l → x.next c ≡ 0 → v.hand ≡ with_next c 0 u.hand → v.ready ≡ u.ready → v.root ≡ u.root → v.cells ≡ u.cells → With v x
-  next_none v c l lead z a b d e = rebuilt x.workers x.cells x.owner x.state x.next x.root x.view G w (with_progress pr v) x.owner x.state x.next x.root G.spot G.wait (put (hands x.view) w v.hand) (readies x.view) (finders x.view) e
+  next_none : (v : View) (c : ℕ) (l : Waiter) → Leads u.hand c l → x.next c ≡ 0 → v.hand ≡ with_next c 0 u.hand → v.ready ≡ u.ready → v.root ≡ u.root → v.cells ≡ u.cells → Reads v
+  next_none v c l lead z a b d e = rebuilt x.workers x.cells x.owner x.state x.next x.root x.view G w (with_progress pr v) (λ s k. Passes G.spot G.wait s k w u) x.owner x.state x.next x.root G.spot G.wait (put (hands x.view) w v.hand) (readies x.view) (finders x.view) (passing.stays_pass G.spot G.wait w u G.spot G.wait (λ d. refl, λ d. refl)) e
       (part_eq (λ (y : View). y.hand) x.view w (with_progress pr v)) (part_same (λ (y : View). y.ready) x.view w (with_progress pr v) b) (part_same (λ (y : View). y.root) x.view w (with_progress pr v) d) G.below
       (subst (λ (h : List Waiter). Listing x.workers G.spot G.wait x.next (counters x.owner) x.state (put (hands x.view) w h) (readies x.view)) (sym a) (follows.follow_none x.workers G.spot G.wait x.next (counters x.owner) x.state (hands x.view) (readies x.view) G.listing w c l lead z)) G.rooting
 
-  next_some : (v : View) (c e : ℕ) (l : Waiter) → Leads u.hand c l → x.next c ≡ suc e → v.hand ≡ with_next c (suc e) u.hand → v.ready ≡ u.ready → v.root ≡ u.root → v.cells ≡ u.cells → With v x
+  next_some : (v : View) (c e : ℕ) (l : Waiter) → Leads u.hand c l → x.next c ≡ suc e → v.hand ≡ with_next c (suc e) u.hand → v.ready ≡ u.ready → v.root ≡ u.root → v.cells ≡ u.cells → Reads v
   next_some v c e l lead z a b d f =
       let t = follows.follow x.workers G.spot G.wait x.next (counters x.owner) x.state (hands x.view) (readies x.view) G.listing w c e l less lead z in
       let spot' : ℕ → Spot = λ d. handed (ranked w c) t.0 w e (G.spot d) in
-      rebuilt x.workers x.cells x.owner x.state x.next x.root x.view G w (with_progress pr v) x.owner x.state x.next x.root spot' G.wait (put (hands x.view) w v.hand) (readies x.view) (finders x.view) f
+      rebuilt x.workers x.cells x.owner x.state x.next x.root x.view G w (with_progress pr v) (λ s k. Passes G.spot G.wait s k w u) x.owner x.state x.next x.root spot' G.wait (put (hands x.view) w v.hand) (readies x.view) (finders x.view)
+      (passing.handing_passes G.spot G.wait w u (Behind w c) (ranked w c) (ranked_here w c) (ranked_only w c) t.0 w e (λ k. tt) (λ i k q. behind_held q)) f
       (part_eq (λ (y : View). y.hand) x.view w (with_progress pr v)) (part_same (λ (y : View). y.ready) x.view w (with_progress pr v) b) (part_same (λ (y : View). y.root) x.view w (with_progress pr v) d)
       (handed_below (Behind w c) (ranked w c) (ranked_here w c) (ranked_only w c) t.0 w e (λ o k q. rooted_behind q) (λ k q. let no : ⊥ = cc in no) x.cells G.spot G.below)
       (subst (λ (h : List Waiter). Listing x.workers spot' G.wait x.next (counters x.owner) x.state (put (hands x.view) w h) (readies x.view)) (sym a) t.1)
       (root_same G.spot spot' x.root (finders x.view) (handed_root (Behind w c) (ranked w c) (ranked_here w c) (ranked_only w c) t.0 w e (λ o k q. rooted_behind q) (λ k q. let no : ⊥ = cc in no) (G.spot 0)) G.rooting)
 
-  next_by : (v : View) (c n : ℕ) (l : Waiter) → Leads u.hand c l → x.next c ≡ n → v.hand ≡ with_next c n u.hand → v.ready ≡ u.ready → v.root ≡ u.root → v.cells ≡ u.cells → With v x
+  next_by : (v : View) (c n : ℕ) (l : Waiter) → Leads u.hand c l → x.next c ≡ n → v.hand ≡ with_next c n u.hand → v.ready ≡ u.ready → v.root ≡ u.root → v.cells ≡ u.cells → Reads v
   next_by v c zero l lead z a b d e = next_none v c l lead z a b d e
   next_by v c (suc n) l lead z a b d e = next_some v c n l lead z a b d e
 
-  pub next_read : (c n : ℕ) → n ≡ x.next c → With (note_loaded (loads.Cell c Next) n (cell_seen c Next n u)) x
+  pub next_read : (c n : ℕ) → n ≡ x.next c → Reads (note_loaded (loads.Cell c Next) n (cell_seen c Next n u))
   next_read c n f = ⊎_elim
       (λ l. next_by (note_loaded (loads.Cell c Next) n (cell_seen c Next n u)) c n l.0 l.1 (sym f) refl refl refl refl)
-      (λ s. quiet_world x x w (with_progress pr (note_loaded (loads.Cell c Next) n (cell_seen c Next n u))) (the_same x) G (s n, refl, refl, refl))
+      (λ s. let q = quiet_view x G w (with_progress pr (note_loaded (loads.Cell c Next) n (cell_seen c Next n u))) (s n, refl, refl, refl) in (q.0, passing.stays_pass G.spot G.wait w u q.0.spot q.0.wait q.1))
       (leader_case c u.hand)
 
   -- ---- a Next word is stored
 
-  pub next_stored : (c n : ℕ) → IsLast u c → With (cell_stored c Next n u) (with_word c Next n x)
+  pub next_stored : (c n : ℕ) → IsLast u c → With (cell_stored c Next n u) (with_word c Next n x) (λ s k. Stays G.spot G.wait s k)
   next_stored c n i =
       let v : View = with_progress pr (cell_stored c Next n u) in
-      rebuilt x.workers x.cells x.owner x.state x.next x.root x.view G w v x.owner x.state (put x.next c n) x.root G.spot G.wait (put (hands x.view) w (linked c n u.hand)) (readies x.view) (finders x.view) refl
+      rebuilt x.workers x.cells x.owner x.state x.next x.root x.view G w v (λ s k. Stays G.spot G.wait s k) x.owner x.state (put x.next c n) x.root G.spot G.wait (put (hands x.view) w (linked c n u.hand)) (readies x.view) (finders x.view) (λ d. refl, λ d. refl) refl
       (part_eq (λ (y : View). y.hand) x.view w v) (part_same (λ (y : View). y.ready) x.view w v refl) (part_same (λ (y : View). y.root) x.view w v refl) G.below
       (singles.set_next x.workers G.spot G.wait x.next (counters x.owner) x.state (hands x.view) (readies x.view) G.listing w c n (i.0, i.1, i.2) (last_all c i)) G.rooting
 
   -- ---- a number becomes ready
 
-  pub readied : (v : View) (c : ℕ) → IsLast u c → v.hand ≡ without_waiter c u.hand → v.ready ≡ c ∷ u.ready → v.root ≡ u.root → v.cells ≡ u.cells → With v x
+  pub readied : (v : View) (c : ℕ) → IsLast u c → v.hand ≡ without_waiter c u.hand → v.ready ≡ c ∷ u.ready → v.root ≡ u.root → v.cells ≡ u.cells → With v x (λ s k. GoesTo G.spot G.wait s k c (Readied w))
   readied v c i a b d e =
       let has : HandHas u.hand c = (i.0, i.1, i.2) in
       let at = held_at c has in
-      rebuilt x.workers x.cells x.owner x.state x.next x.root x.view G w (with_progress pr v) x.owner x.state x.next x.root (put G.spot c (Readied w)) G.wait (put (hands x.view) w v.hand) (put (readies x.view) w v.ready) (finders x.view) e
+      rebuilt x.workers x.cells x.owner x.state x.next x.root x.view G w (with_progress pr v) (λ s k. GoesTo G.spot G.wait s k c (Readied w)) x.owner x.state x.next x.root (put G.spot c (Readied w)) G.wait (put (hands x.view) w v.hand) (put (readies x.view) w v.ready) (finders x.view) (λ f. refl, λ f. refl) e
       (part_eq (λ (y : View). y.hand) x.view w (with_progress pr v)) (part_eq (λ (y : View). y.ready) x.view w (with_progress pr v)) (part_same (λ (y : View). y.root) x.view w (with_progress pr v) d)
       (below_put x.cells G.spot c (Readied w) (held_below c has) G.below)
       (subst (λ (h : List Waiter). Listing x.workers (put G.spot c (Readied w)) G.wait x.next (counters x.owner) x.state (put (hands x.view) w h) (put (readies x.view) w v.ready)) (sym a)
@@ -106,7 +114,7 @@ module _ (x : World) (G : Lists x) (w : ℕ) (less : w < x.workers) (pr : Progre
 
   named_list : (c n : ℕ) → x.state c ≡ 0 → Listing x.workers G.spot G.wait x.next (counters (put x.owner c n)) x.state (hands x.view) (readies x.view)
   named_list c n z =
-      let empty : (b : Bool) → head_by b (x.state c) ≡ 0 = λ b. ap (head_by b) z ∙ none b in
+      let empty : (b : Bool) → head_by b (x.state c) ≡ 0 = λ b. ap (head_by b) z ∙ head_zero b in
       let nobody = fills.none_waits x.workers G.spot G.wait x.next (counters x.owner) x.state (hands x.view) (readies x.view) G.listing c (empty (counters x.owner c)) in
       record {
         lists = λ f. put_all (λ (g : ℕ) (o : ℕ). IsList x.next G.spot (Listed g) (head_by (is_counter o) (x.state g))) x.owner c n f
@@ -119,20 +127,19 @@ module _ (x : World) (G : Lists x) (w : ℕ) (less : w < x.workers) (pr : Progre
         behind = G.listing.behind;
         readies = G.listing.readies;
       }
-    where
-      none : (b : Bool) → head_by b 0 ≡ 0
-      none true = refl
-      none false = refl
 
-  pub named : (c n : ℕ) → x.state c ≡ 0 → With (cell_stored c Owner n u) (with_word c Owner n x)
+  pub named : (c n : ℕ) → x.state c ≡ 0 → With (cell_stored c Owner n u) (with_word c Owner n x) (λ s k. Stays G.spot G.wait s k)
   named c n z =
       let v : View = with_progress pr (cell_stored c Owner n u) in
-      rebuilt x.workers x.cells x.owner x.state x.next x.root x.view G w v (put x.owner c n) x.state x.next x.root G.spot G.wait (hands x.view) (readies x.view) (finders x.view) refl
+      rebuilt x.workers x.cells x.owner x.state x.next x.root x.view G w v (λ s k. Stays G.spot G.wait s k) (put x.owner c n) x.state x.next x.root G.spot G.wait (hands x.view) (readies x.view) (finders x.view) (λ d. refl, λ d. refl) refl
       (part_same (λ (y : View). y.hand) x.view w v refl) (part_same (λ (y : View). y.ready) x.view w v refl) (part_same (λ (y : View). y.root) x.view w v refl) G.below (named_list c n z) G.rooting
 
   -- ---- the Root word
 
-  root_found : (n : ℕ) → n ≡ 1 → x.root ≡ 1 → With (root_tried n u) (record x { root = 0 })
+  abbrev Roots : ℕ → Type 0
+  Roots n = With (root_tried n u) (record x { root = 0 }) (λ s k. GoesRooted G.spot G.wait s k w n)
+
+  root_found : (n : ℕ) → n ≡ 1 → x.root ≡ 1 → Roots n
   root_found n one z =
       let v : View = with_progress pr (record u { root = true }) in
       let at : G.spot 0 ≡ Rooted None = G.rooting.untaken z in
@@ -140,8 +147,8 @@ module _ (x : World) (G : Lists x) (w : ℕ) (less : w < x.workers) (pr : Progre
       let now : spot' 0 ≡ Rooted (Some w) = put_here G.spot 0 (Rooted (Some w)) in
       let found : ℕ → Bool = put (finders x.view) w true in
       let mine : found w ≡ true = put_here (finders x.view) w true in
-      subst (λ (k : ℕ). With (root_tried k u) (record x { root = 0 })) (sym one)
-      (rebuilt x.workers x.cells x.owner x.state x.next x.root x.view G w v x.owner x.state x.next 0 spot' G.wait (hands x.view) (readies x.view) found refl
+      subst (λ (k : ℕ). Roots k) (sym one)
+      (rebuilt x.workers x.cells x.owner x.state x.next x.root x.view G w v (λ s k. GoesRooted G.spot G.wait s k w 1) x.owner x.state x.next 0 spot' G.wait (hands x.view) (readies x.view) found (λ d. refl, λ d. refl) refl
       (part_same (λ (y : View). y.hand) x.view w v refl) (part_same (λ (y : View). y.ready) x.view w v refl) (part_eq (λ (y : View). y.root) x.view w v)
       (below_put x.cells G.spot 0 (Rooted (Some w)) (G.below 0 (λ q. let no : ⊥ = cc in no)) G.below)
       (singles.change_root x.workers G.spot G.wait x.next (counters x.owner) x.state (hands x.view) (readies x.view) G.listing (Rooted (Some w)) None at (λ f k q. rooted_listed q) (λ q m. m) (λ q m k z. rooted_behind z) (λ q z. rooted_readied z))
@@ -155,11 +162,11 @@ module _ (x : World) (G : Lists x) (w : ℕ) (less : w < x.workers) (pr : Progre
       one_of : (q : ℕ) → Rooted (Some w) ≡ Rooted (Some q) → q ≡ w
       one_of q t = let s : w ≡ q = cc in sym s
 
-  root_gone : (n : ℕ) → n ≡ 0 → x.root ≢ 1 → With (root_tried n u) (record x { root = 0 })
+  root_gone : (n : ℕ) → n ≡ 0 → x.root ≢ 1 → Roots n
   root_gone n none z =
       let v : View = with_progress pr u in
-      subst (λ (k : ℕ). With (root_tried k u) (record x { root = 0 })) (sym none)
-      (rebuilt x.workers x.cells x.owner x.state x.next x.root x.view G w v x.owner x.state x.next 0 G.spot G.wait (hands x.view) (readies x.view) (finders x.view) refl
+      subst (λ (k : ℕ). Roots k) (sym none)
+      (rebuilt x.workers x.cells x.owner x.state x.next x.root x.view G w v (λ s k. GoesRooted G.spot G.wait s k w 0) x.owner x.state x.next 0 G.spot G.wait (hands x.view) (readies x.view) (finders x.view) (λ d. refl, λ d. refl) refl
       (part_same (λ (y : View). y.hand) x.view w v refl) (part_same (λ (y : View). y.ready) x.view w v refl) (part_same (λ (y : View). y.root) x.view w v refl) G.below G.listing
       (record {
         untaken = λ e. let no : ⊥ = omega (arith, e) in absurd no;
@@ -168,7 +175,7 @@ module _ (x : World) (G : Lists x) (w : ℕ) (less : w < x.workers) (pr : Progre
         finds = G.rooting.finds;
       }))
 
-  pub root_taken : (n : ℕ) → n ≡ from_bool (x.root == 1) → With (root_tried n u) (record x { root = 0 })
+  pub root_taken : (n : ℕ) → n ≡ from_bool (x.root == 1) → Roots n
   root_taken n f = dite (ℕ_discrete x.root 1)
       (λ (e : x.root ≡ 1). root_found n (f ∙ ap (λ (b : Bool). from_bool b) (eq-eqb x.root 1 e)) e)
       (λ (d : x.root ≢ 1). root_gone n (f ∙ ap (λ (b : Bool). from_bool b) (ne_eqb x.root 1 d)) d)

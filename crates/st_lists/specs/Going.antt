@@ -1,6 +1,6 @@
 -- How numbers move by each kind of step: Goes, between where they were and what they waited for and where they are and what they wait for then. Others
 -- who have a number by where it is (a chain in its slot, in a turn or in mail) read this alone.
-use Rattle.std.specs.Prelude.{◌≡◌, ◌≢◌, ◌⊎◌, ℕ, zero, suc, Bool, true, false, ◌&&◌, ◌==◌, Option, Some, None}
+use Rattle.std.specs.Prelude.{◌≡◌, ◌⊎◌, ℕ, zero, suc, Bool, true, false, ◌&&◌, ◌==◌, Option, Some, None}
 use Rattle.st_base.specs.declared.chain.Waiting.{Waiting}
 use Rattle.st_base.specs.declared.chain.Waiting.TheVariants as waits
 use Rattle.st_words.specs.declared.view.CellWord.TheVariants.{Next, Standing}

@@ -1,11 +1,14 @@
--- The laws of numbers and lists, over worlds. Read MoveLaws (what a worker does between steps keeps them) and ViewLaws (what is always so of a view), and WordLaws
--- (the steps on State, Next, Owner and Root words).
+-- The laws of numbers and lists, over worlds. Read Kept (each kind of step of a worker keeps them, whatever is answered, and how the numbers move), MoveLaws (so
+-- does what a worker does between steps, and the numbers stay), ViewLaws (what is always so of a view), ToldLaws (what follows for the words that are read, and
+-- where the numbers of a view are) and First (a board that is opened).
 -- Tends is what a careful step keeps of the lists, and IsKnown what others know of it.
-use Rattle.std.specs.Prelude.{◌≡◌, ◌⊎◌, ℕ, ◌+◌, ◌<◌, true, false, List, Some}
+use Rattle.std.specs.Prelude.{◌≡◌, ◌≢◌, ◌⊎◌, ℕ, suc, ◌+◌, ◌/◌, ◌<◌, ◌≤◌, true, false, List, Some, None}
 use Rattle.std.specs.List.{Contains}
 use Rattle.st_base.specs.declared.chain.Frame.{Frame}
 use Rattle.st_base.specs.declared.chain.Waiting.{Waiting}
 use Rattle.st_base.specs.declared.chain.Waiting.TheVariants as waits
+use Rattle.st_base.specs.declared.limits.Limits.{Limits}
+use Rattle.st_base.specs.declared.thread.Thread.{Thread}
 use Rattle.st_words.specs.declared.view.CellWord.TheVariants.{Owner, Next, Standing}
 use Rattle.st_words.specs.declared.view.Slot.TheVariants.{Cell}
 use Rattle.st_words.specs.declared.view.Known.{Known}
@@ -13,24 +16,28 @@ use Rattle.st_words.specs.declared.view.Carried.{Carried}
 use Rattle.st_words.specs.declared.view.Waiter.{Waiter}
 use Rattle.st_words.specs.declared.view.View.{View}
 use Rattle.st_words.specs.Encodings.{is_counter, full_word, count_in, head_in, counter_word, ready}
-use Rattle.st_words.specs.Steps.{Step, CellLoad, CellStore, CellChange, RootTake, SlotTake, SlotPut, Done, Number, Can, HasInHand, IsFuture, IsCounter, IsDone}
-use Rattle.st_words.specs.Careful.{InHand}
+use Rattle.st_words.specs.Steps.{Step, CellStore, CellChange, RootTake, SlotTake, SlotPut, Answer, Number, Can, HasInHand, IsFuture, IsCounter, IsDone}
+use Rattle.st_words.specs.Careful.{InHand, IsAtHome}
 use Rattle.st_words.specs.Views.{Progress, with_progress, counts_cell, owner_seen, Does}
+use Rattle.st_words.specs.Plain.{first_words, first_cargoes, first_views}
+use Rattle.st_words.specs.Promises.{Promises}
 use Rattle.st_words.specs.Moves.{suspending, giving, restarting, beginning, exporting}
 use Rattle.st_world.specs.World.{World, seen, Finds, world_after}
-use Rattle.st_lists.specs.Listing.{Nowhere, Held, Once, Lists}
+use Rattle.st_world.specs.OfPlain.{world_of}
+use Rattle.st_lists.specs.Listing.{Spot, Nowhere, Held, Readied, Rooted, Once, Lists}
+use Rattle.st_lists.specs.Going.{Stays, Goes}
 
 -- ---- what a careful step keeps of the lists
 
 abbrev pub IsLast : View → ℕ → Type 0
 IsLast u c = InHand u c (λ x. x.leads ≡ false)
 
--- a waiter of a future or a counter is parked there, linked to the head that was seen
+-- a waiter of a future or a counter is parked there, linked to the head that was seen, while its chain is in its slot
 abbrev pub ParksThere : View → ℕ → ℕ → ℕ → Type 0
-ParksThere u c old new = (waiter : ℕ) × (new ≡ waiter + 1) × InHand u waiter (λ x. (x.next ≡ Some old) × (x.wait ≡ Some (waits.Touch c)))
+ParksThere u c old new = (waiter : ℕ) × (new ≡ waiter + 1) × IsAtHome u waiter × InHand u waiter (λ x. (x.next ≡ Some old) × (x.wait ≡ Some (waits.Touch c)))
 
 abbrev pub JoinsThere : View → ℕ → ℕ → ℕ → Type 0
-JoinsThere u c old new = (waiter : ℕ) × (least : ℕ) × (new ≡ counter_word (count_in old) (waiter + 1)) × (count_in old < least) × InHand u waiter (λ x. (x.next ≡ Some (head_in old)) × (x.wait ≡ Some (waits.Join c least)))
+JoinsThere u c old new = (waiter : ℕ) × (least : ℕ) × (new ≡ counter_word (count_in old) (waiter + 1)) × (count_in old < least) × IsAtHome u waiter × InHand u waiter (λ x. (x.next ≡ Some (head_in old)) × (x.wait ≡ Some (waits.Join c least)))
 
 -- what is behind a waiter that is linked or made ready is known; a waiter is parked where it waits
 abbrev pub Tends : View → Step → Type 0
@@ -56,14 +63,26 @@ IsKnown x l w s = Prim.Unit
 
 -- ---- laws
 
--- what a worker does by itself changes nothing that is read
+-- the lists of a world, and P holds of where the numbers are and what they wait for
+abbrev pub Having : World → ((ℕ → Spot) → (ℕ → Waiting) → Type 0) → Type 0
+Having x P = (l : Lists x) × P l.spot l.wait
+
+-- the lists of the world y, where the numbers are as those of x are
+abbrev pub Staying : (x : World) → Lists x → World → Type 0
+Staying x l y = Having y (λ spot wait. Stays l.spot l.wait spot wait)
+
+-- each kind of step keeps them, whatever is answered, where it is careful and what others know is so, and the numbers go as Goes says
+abbrev pub Kept : Type 0
+Kept = (x : World) (l : Lists x) (w : ℕ) (s : Step) (a : Answer) (v : View) → w < x.workers → Can (x.view w) s → Tends (x.view w) s → IsKnown x l w s → Finds x w s a → Does (x.view w) s a v → Having (world_after x w s a v) (λ spot wait. Goes l.spot l.wait spot wait w (x.view w) s a)
+
+-- by what a worker does by itself the numbers stay
 pub record MoveLaws : Type 0 where
-  pub progresses : (x : World) (w : ℕ) (progress : Progress) → Lists x → Lists (seen w (with_progress progress (x.view w)) x)
-  pub suspends : (x : World) (w : ℕ) (t : Known) (rest : List Known) (wait : Waiting) → Lists x → Lists (seen w (suspending t rest wait (x.view w)) x)
-  pub gives : (x : World) (w : ℕ) (t : Known) (above : List Known) → Lists x → Lists (seen w (giving t above (x.view w)) x)
-  pub restarts : (x : World) (w : ℕ) (carried : Carried) → Lists x → Lists (seen w (restarting carried (x.view w)) x)
-  pub begins : (x : World) (w : ℕ) (child parent : Known) (rest : List Known) → Lists x → Lists (seen w (beginning child parent rest (x.view w)) x)
-  pub exports : (x : World) (w : ℕ) (f : Frame) → Lists x → Lists (seen w (exporting f (x.view w)) x)
+  pub progresses : (x : World) (l : Lists x) (w : ℕ) (progress : Progress) → Staying x l (seen w (with_progress progress (x.view w)) x)
+  pub suspends : (x : World) (l : Lists x) (w : ℕ) (t : Known) (rest : List Known) (wait : Waiting) → Staying x l (seen w (suspending t rest wait (x.view w)) x)
+  pub gives : (x : World) (l : Lists x) (w : ℕ) (t : Known) (above : List Known) → Staying x l (seen w (giving t above (x.view w)) x)
+  pub restarts : (x : World) (l : Lists x) (w : ℕ) (carried : Carried) → Staying x l (seen w (restarting carried (x.view w)) x)
+  pub begins : (x : World) (l : Lists x) (w : ℕ) (child parent : Known) (rest : List Known) → Staying x l (seen w (beginning child parent rest (x.view w)) x)
+  pub exports : (x : World) (l : Lists x) (w : ℕ) (f : Frame) → Staying x l (seen w (exporting f (x.view w)) x)
 
 -- what is always so of a view
 pub record ViewLaws : Type 0 where
@@ -79,10 +98,20 @@ pub record ViewLaws : Type 0 where
   -- a Next word is stored only after what was behind the waiter is known
   pub linked : (x : World) (w : ℕ) (y : Waiter) (n : ℕ) → Lists x → Contains (x.view w).hand y → y.next ≡ Some n → y.leads ≡ false
 
--- the steps on State, Next and Owner words and on the Root word keep the lists, whatever is answered, where they are careful and what others know is so
-pub record WordLaws : Type 0 where
-  pub changes : (x : World) (l : Lists x) (w c old new n : ℕ) (v : View) → w < x.workers → Can (x.view w) (CellChange c old new) → Tends (x.view w) (CellChange c old new) → IsKnown x l w (CellChange c old new) → Finds x w (CellChange c old new) (Number n) → Does (x.view w) (CellChange c old new) (Number n) v → Lists (world_after x w (CellChange c old new) (Number n) v)
-  pub follows : (x : World) (l : Lists x) (w c n : ℕ) (v : View) → w < x.workers → Finds x w (CellLoad c Next) (Number n) → Does (x.view w) (CellLoad c Next) (Number n) v → Lists (world_after x w (CellLoad c Next) (Number n) v)
-  pub links : (x : World) (l : Lists x) (w c n : ℕ) (v : View) → w < x.workers → Tends (x.view w) (CellStore c Next n) → Does (x.view w) (CellStore c Next n) Done v → Lists (world_after x w (CellStore c Next n) Done v)
-  pub names : (x : World) (l : Lists x) (w c n : ℕ) (v : View) → w < x.workers → IsKnown x l w (CellStore c Owner n) → Does (x.view w) (CellStore c Owner n) Done v → Lists (world_after x w (CellStore c Owner n) Done v)
-  pub takes : (x : World) (l : Lists x) (w n : ℕ) (v : View) → w < x.workers → Finds x w RootTake (Number n) → Does (x.view w) RootTake (Number n) v → Lists (world_after x w RootTake (Number n) v)
+-- what follows for the words that are read, and where the numbers of a view are
+pub record ToldLaws : Type 0 where
+  pub takes : (x : World) (l : Lists x) (w n : ℕ) → Finds x w RootTake (Number n) → Promises (x.view w) RootTake (Number n)
+  pub finds : (x : World) (l : Lists x) (w n : ℕ) → Finds x w RootTake (Number (suc n)) → l.spot 0 ≡ Rooted None
+  -- the head of the waiters of a cell is one of the cells, by what its Owner word tells
+  pub future : (x : World) (l : Lists x) (c : ℕ) → is_counter (x.owner c) ≡ false → (x.state c ≡ full_word) ⊎ (x.state c ≤ x.cells)
+  pub counter : (x : World) (l : Lists x) (c : ℕ) → is_counter (x.owner c) ≡ true → head_in (x.state c) ≤ x.cells
+  -- and so is what is behind a waiter that leads
+  pub leads : (x : World) (l : Lists x) (w : ℕ) (y : Waiter) → Contains (x.view w).hand y → y.leads ≡ true → x.next y.cell ≤ x.cells
+  pub hand : (x : World) (l : Lists x) (w c : ℕ) → HasInHand (x.view w) c → l.spot c ≡ Held w
+  pub readies : (x : World) (l : Lists x) (w c : ℕ) → Contains (x.view w).ready c → l.spot c ≡ Readied w
+  pub root : (x : World) (l : Lists x) (w : ℕ) → (x.view w).root ≡ true → l.spot 0 ≡ Rooted (Some w)
+
+-- a board that is opened has them: the root's chain may be found, and no other number is anywhere
+abbrev pub First : Type 0
+First = (limits : Limits) (workers : ℕ) (thread : Thread) →
+    Having (world_of (limits.stack / 8) (first_words limits workers) (first_cargoes limits workers thread) (first_views limits workers)) (λ spot wait. (spot 0 ≡ Rooted None) × ((c : ℕ) → c ≢ 0 → spot c ≡ Nowhere))
