@@ -1,6 +1,6 @@
 -- What a step is told of beside Careful, for the places of threads: IsKnown (what follows from the other groups), and ThreadsGo (which thread goes out by the
 -- item that goes with the step).
-use Rattle.std.specs.Prelude.{◌≡◌, ℕ, Bool, true, false, not, ◌&&◌, ◌==◌, ◌∷◌, None}
+use Rattle.std.specs.Prelude.{◌≡◌, ℕ, ◌<◌, Bool, true, false, not, ◌&&◌, ◌==◌, ◌∷◌, None}
 use Rattle.st_base.specs.declared.chain.Waiting.{Waiting}
 use Rattle.st_words.specs.declared.view.CellWord.TheVariants.{Owner, Standing}
 use Rattle.st_words.specs.declared.view.Slot.TheVariants.{Mail}
@@ -21,7 +21,7 @@ abbrev pub IsKnown : World → View → Step → Type 0
 IsKnown x u (CellStore c Owner n) = (x.owner c ≡ 0) × (x.state c ≡ 0)
 IsKnown x u (CellStore c Standing n) = n ≡ ready → (k : Waiting) → HasSeenOver u k → IsOver (counters x.owner) x.state k
 IsKnown x u (CellChange c old new) = KnowsKind (x.owner c) u c
-IsKnown x u (SlotPut (Mail at) chain cargo) = x.post at ≡ None
+IsKnown x u (SlotPut (Mail at) chain cargo) = (x.post at ≡ None) × (at < x.workers)
 IsKnown x u s = Prim.Unit
 
 -- ---- threads

@@ -72,7 +72,7 @@ module _ (program : Program) (source : Data) (h : Heap) where
 
   -- no item is made
   abbrev pub IsStill : View → View → Type 0
-  IsStill v u = Begins v u ⊎ (Suspends program source v u ⊎ (Gives v u ⊎ (Restarts v u ⊎ Exports v u)))
+  IsStill v u = Begins program source v u ⊎ (Suspends program source v u ⊎ (Gives program source v u ⊎ (Restarts program source v u ⊎ Exports program source v u)))
 
   abbrev pub MoveBehind : View → View → Heap → Type 0
   MoveBehind v u h' = (IsStill v u × (h' ≡ h)) ⊎ (Makes v u h' ⊎ Forks v u h')
