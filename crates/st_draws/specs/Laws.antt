@@ -1,12 +1,11 @@
 -- The laws of drawn numbers, over worlds. Read Kept (each careful step keeps them, whatever is answered), MoveLaws (so does what a worker does between steps), ToldLaws
 -- (what follows for a number that is drawn, and for one that is named) and First.
-use Rattle.std.specs.Prelude.{◌≡◌, ◌≢◌, ℕ, ◌+◌, ◌/◌, ◌≤◌, ◌<◌, List, Option}
+use Rattle.std.specs.Prelude.{◌≡◌, ◌≢◌, ℕ, ◌+◌, ◌/◌, ◌≤◌, ◌<◌, List}
 use Rattle.std.specs.List.{Contains}
 use Rattle.st_base.specs.declared.chain.Frame.{Frame}
 use Rattle.st_base.specs.declared.chain.Waiting.{Waiting}
 use Rattle.st_base.specs.declared.limits.Limits.{Limits}
 use Rattle.st_base.specs.declared.thread.Thread.{Thread}
-use Rattle.st_words.specs.declared.view.CellWord.TheVariants.{Owner}
 use Rattle.st_words.specs.declared.view.Known.{Known}
 use Rattle.st_words.specs.declared.view.Carried.{Carried}
 use Rattle.st_words.specs.declared.view.View.{View}

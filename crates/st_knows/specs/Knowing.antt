@@ -1,6 +1,6 @@
 -- What views have seen of the words of cells is so still. Read Knows, which is of a world: an Owner word that was seen stays, a full future stays full with its value,
 -- a count never falls, a name tells the kind of its cell, and a stop code stays.
-use Rattle.std.specs.Prelude.{◌≡◌, ◌≢◌, ℕ, ◌≤◌, Bool, true, false, List, Option, Some}
+use Rattle.std.specs.Prelude.{◌≡◌, ◌≢◌, ℕ, ◌≤◌, Bool, true, false, List, Some}
 use Rattle.std.specs.List.{Contains}
 use Rattle.st_base.specs.declared.thread.Held.{Held}
 use Rattle.st_words.specs.declared.view.Slot.{Slot}

@@ -1,13 +1,13 @@
 -- The laws of what views have seen of cells, over worlds. Read Kept (each careful step keeps it, whatever is answered), MoveLaws (so does what a worker does between
 -- steps), ToldLaws (what follows for the answers of loads, and what the worker takes a cell for) and First.
-use Rattle.std.specs.Prelude.{◌≡◌, ◌≢◌, ◌⊎◌, ℕ, ◌/◌, ◌≤◌, ◌<◌, true, false, List, Option, Some}
+use Rattle.std.specs.Prelude.{◌≡◌, ◌≢◌, ◌⊎◌, ℕ, ◌/◌, ◌≤◌, ◌<◌, false, List, Some}
 use Rattle.std.specs.List.{Contains}
 use Rattle.st_base.specs.declared.chain.Frame.{Frame}
 use Rattle.st_base.specs.declared.chain.Waiting.{Waiting}
 use Rattle.st_base.specs.declared.limits.Limits.{Limits}
 use Rattle.st_base.specs.declared.thread.Thread.{Thread}
 use Rattle.st_base.specs.declared.thread.Held.{Held}
-use Rattle.st_words.specs.declared.view.CellWord.TheVariants.{Owner, State, Value}
+use Rattle.st_words.specs.declared.view.CellWord.TheVariants.{Owner, Value}
 use Rattle.st_words.specs.declared.view.Known.{Known}
 use Rattle.st_words.specs.declared.view.Carried.{Carried}
 use Rattle.st_words.specs.declared.view.View.{View}

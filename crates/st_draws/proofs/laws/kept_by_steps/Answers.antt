@@ -1,0 +1,5 @@
+use Rattle.st_draws.proofs.Steps as proven
+use Rattle.st_draws.proofs.laws.kept_by_steps.Goals as goal
+
+pub returns : goal.returns
+returns g c = proven.careful_kept g.P.Program.means
