@@ -21,10 +21,10 @@ use Rattle.st_world.specs.Functions.{put}
 use Rattle.st_world.specs.World.{World, slot_of, cargo_of, with_word, seen, waking, woken, Finds, changed, world_after}
 use Rattle.st_world.proofs.Functions.{put_here, put_other, put_all}
 use Rattle.st_counts.specs.Counting.{filling, Counts}
-use Rattle.st_counts.specs.Laws.{Spares, IsWeighed, NoneBegun}
+use Rattle.st_counts.specs.Laws.{Spares, HasWork, IsWeighed, NoneBegun}
 use Rattle.st_counts.proofs.Sums.{shares_put, units_put, filling_some, some_thread_there, chain_out, same_standing}
 use Rattle.st_counts.proofs.Changes.{SameNumbers, one_more_is, one_less_is, active_most, share_within, recounted}
-use Rattle.st_counts.proofs.ViewsAfter.{SameTurn, IsQuiet, same_after, changed_after, waiting_more}
+use Rattle.st_counts.proofs.ViewsAfter.{SameTurn, IsQuiet, same_after, SameChange, changed_after, waiting_more}
 use Rattle.st_counts.proofs.Moves.{world_stays, quiet_view}
 
 numbers_after : (pr : Progress) (u : View) (s : Step) (a : Answer) → SameNumbers u (with_progress pr (view_after u s a))
@@ -84,8 +84,14 @@ module _ (x : World) (C : Counts x) (w : ℕ) (less : w < x.workers) (pr : Progr
       let l = (C.covered w).covers in
       world_stays x w v C s e (record { covers = omega (arith, e, k, l, fewer); holds = λ d. omega (arith, e, one) }) (λ i. C.inactive w (sym p.2 ∙ i))
 
-  pub change_kept : (c old new k : ℕ) → Spares u (CellChange c old new) → Counts (world_after x w (CellChange c old new) (Number k) (with_progress pr (view_after u (CellChange c old new) (Number k))))
-  change_kept c old new k spares = changed_view (with_progress pr (view_after u (CellChange c old new) (Number k))) (numbers_after pr u (CellChange c old new) (Number k)) (changed_after u c old new k) n (has_share spares)
+  changed_by : (b : Bool) (v : View) → SameNumbers u (with_progress pr v) → SameChange b u v → (b ≡ true → 1 ≤ u.share) → Counts (seen w (with_progress pr v) x)
+  changed_by true v s p one = changed_view (with_progress pr v) s p n (one refl)
+  changed_by false v s p one = quiet_view x w (with_progress pr v) C s p n
+
+  pub change_kept : (c old new k : ℕ) → HasWork u (CellChange c old new) (Number k) → Counts (world_after x w (CellChange c old new) (Number k) (with_progress pr (view_after u (CellChange c old new) (Number k))))
+  change_kept c old new k work =
+      let at : Step = CellChange c old new in
+      changed_by (k == old) (view_after u at (Number k)) (numbers_after pr u at (Number k)) (changed_after u c old new k) (λ e. has_share (work (same_true k old e)))
 
   -- ---- the active count
 
@@ -284,38 +290,38 @@ module _ (x : World) (C : Counts x) (w : ℕ) (less : w < x.workers) (pr : Progr
 -- ---- each kind of step
 
 -- by the answer that is found, and by the view after it that is named
-answered : (x : World) (w : ℕ) (s : Step) (a : Answer) (pr : Progress) → Counts x → w < x.workers → Can (x.view w) s → Spares (x.view w) s → IsWeighed x (x.view w) s → Finds x w s a → NoneBegun (x.view w) pr.threads → Counts (world_after x w s a (with_progress pr (view_after (x.view w) s a)))
-answered x w (ActiveAdd up) (Number k) pr C l can spares weighed f n = add_kept x C w l pr n up k can spares
-answered x w ActiveLoad (Number k) pr C l can spares weighed f n = load_kept x C w l pr n k f
-answered x w (CellChange c old new) (Number k) pr C l can spares weighed f n = change_kept x C w l pr n c old new k spares
-answered x w (CellStore c Standing k) Done pr C l can spares weighed f n = stand_kept x C w l pr n c k can.0 spares weighed
-answered x w (SlotTake slot) (Took o cargo) pr C l can spares weighed f n = subst (λ (k : Cargo). Counts (world_after x w (SlotTake slot) (Took o k) (with_progress pr (view_after (x.view w) (SlotTake slot) (Took o k))))) (sym f.1) (take_kept x C w l pr n slot o can spares weighed f.0)
-answered x w (SlotPut slot chain cargo) Done pr C l can spares weighed f n = put_kept x C w l pr n slot chain cargo can spares weighed
-answered x w (CellStore c Owner k) Done pr C l can spares weighed f n = quiet_kept x w (CellStore c Owner k) Done pr tt C n
-answered x w (CellStore c State k) Done pr C l can spares weighed f n = quiet_kept x w (CellStore c State k) Done pr tt C n
-answered x w (CellStore c Value k) Done pr C l can spares weighed f n = quiet_kept x w (CellStore c Value k) Done pr tt C n
-answered x w (CellStore c Next k) Done pr C l can spares weighed f n = quiet_kept x w (CellStore c Next k) Done pr tt C n
-answered x w (CellStore c Trap k) Done pr C l can spares weighed f n = quiet_kept x w (CellStore c Trap k) Done pr tt C n
-answered x w (ActiveAdd up) Done pr C l can spares weighed f n = absurd f
-answered x w (ActiveAdd up) (Looked k c) pr C l can spares weighed f n = absurd f
-answered x w (ActiveAdd up) (Took k c) pr C l can spares weighed f n = absurd f
-answered x w ActiveLoad Done pr C l can spares weighed f n = absurd f
-answered x w ActiveLoad (Looked k c) pr C l can spares weighed f n = absurd f
-answered x w ActiveLoad (Took k c) pr C l can spares weighed f n = absurd f
-answered x w (CellChange c old new) Done pr C l can spares weighed f n = absurd f
-answered x w (CellChange c old new) (Looked k d) pr C l can spares weighed f n = absurd f
-answered x w (CellChange c old new) (Took k d) pr C l can spares weighed f n = absurd f
-answered x w (CellStore c word k) (Number m) pr C l can spares weighed f n = absurd f
-answered x w (CellStore c word k) (Looked m d) pr C l can spares weighed f n = absurd f
-answered x w (CellStore c word k) (Took m d) pr C l can spares weighed f n = absurd f
-answered x w (SlotTake slot) Done pr C l can spares weighed f n = absurd f
-answered x w (SlotTake slot) (Number k) pr C l can spares weighed f n = absurd f
-answered x w (SlotTake slot) (Looked k c) pr C l can spares weighed f n = absurd f
-answered x w (SlotPut slot chain cargo) (Number k) pr C l can spares weighed f n = absurd f
-answered x w (SlotPut slot chain cargo) (Looked k c) pr C l can spares weighed f n = absurd f
-answered x w (SlotPut slot chain cargo) (Took k c) pr C l can spares weighed f n = absurd f
-answered x w s a pr C l can spares weighed f n = quiet_kept x w s a pr tt C n
+answered : (x : World) (w : ℕ) (s : Step) (a : Answer) (pr : Progress) → Counts x → w < x.workers → Can (x.view w) s → Spares (x.view w) s → HasWork (x.view w) s a → IsWeighed x (x.view w) s → Finds x w s a → NoneBegun (x.view w) pr.threads → Counts (world_after x w s a (with_progress pr (view_after (x.view w) s a)))
+answered x w (ActiveAdd up) (Number k) pr C l can spares work weighed f n = add_kept x C w l pr n up k can spares
+answered x w ActiveLoad (Number k) pr C l can spares work weighed f n = load_kept x C w l pr n k f
+answered x w (CellChange c old new) (Number k) pr C l can spares work weighed f n = change_kept x C w l pr n c old new k work
+answered x w (CellStore c Standing k) Done pr C l can spares work weighed f n = stand_kept x C w l pr n c k can.0 spares weighed
+answered x w (SlotTake slot) (Took o cargo) pr C l can spares work weighed f n = subst (λ (k : Cargo). Counts (world_after x w (SlotTake slot) (Took o k) (with_progress pr (view_after (x.view w) (SlotTake slot) (Took o k))))) (sym f.1) (take_kept x C w l pr n slot o can spares weighed f.0)
+answered x w (SlotPut slot chain cargo) Done pr C l can spares work weighed f n = put_kept x C w l pr n slot chain cargo can spares weighed
+answered x w (CellStore c Owner k) Done pr C l can spares work weighed f n = quiet_kept x w (CellStore c Owner k) Done pr tt C n
+answered x w (CellStore c State k) Done pr C l can spares work weighed f n = quiet_kept x w (CellStore c State k) Done pr tt C n
+answered x w (CellStore c Value k) Done pr C l can spares work weighed f n = quiet_kept x w (CellStore c Value k) Done pr tt C n
+answered x w (CellStore c Next k) Done pr C l can spares work weighed f n = quiet_kept x w (CellStore c Next k) Done pr tt C n
+answered x w (CellStore c Trap k) Done pr C l can spares work weighed f n = quiet_kept x w (CellStore c Trap k) Done pr tt C n
+answered x w (ActiveAdd up) Done pr C l can spares work weighed f n = absurd f
+answered x w (ActiveAdd up) (Looked k c) pr C l can spares work weighed f n = absurd f
+answered x w (ActiveAdd up) (Took k c) pr C l can spares work weighed f n = absurd f
+answered x w ActiveLoad Done pr C l can spares work weighed f n = absurd f
+answered x w ActiveLoad (Looked k c) pr C l can spares work weighed f n = absurd f
+answered x w ActiveLoad (Took k c) pr C l can spares work weighed f n = absurd f
+answered x w (CellChange c old new) Done pr C l can spares work weighed f n = absurd f
+answered x w (CellChange c old new) (Looked k d) pr C l can spares work weighed f n = absurd f
+answered x w (CellChange c old new) (Took k d) pr C l can spares work weighed f n = absurd f
+answered x w (CellStore c word k) (Number m) pr C l can spares work weighed f n = absurd f
+answered x w (CellStore c word k) (Looked m d) pr C l can spares work weighed f n = absurd f
+answered x w (CellStore c word k) (Took m d) pr C l can spares work weighed f n = absurd f
+answered x w (SlotTake slot) Done pr C l can spares work weighed f n = absurd f
+answered x w (SlotTake slot) (Number k) pr C l can spares work weighed f n = absurd f
+answered x w (SlotTake slot) (Looked k c) pr C l can spares work weighed f n = absurd f
+answered x w (SlotPut slot chain cargo) (Number k) pr C l can spares work weighed f n = absurd f
+answered x w (SlotPut slot chain cargo) (Looked k c) pr C l can spares work weighed f n = absurd f
+answered x w (SlotPut slot chain cargo) (Took k c) pr C l can spares work weighed f n = absurd f
+answered x w s a pr C l can spares work weighed f n = quiet_kept x w s a pr tt C n
 
-pub step_kept : (x : World) (w : ℕ) (s : Step) (a : Answer) (v : View) → Counts x → w < x.workers → Can (x.view w) s → Spares (x.view w) s → IsWeighed x (x.view w) s → Finds x w s a → Does (x.view w) s a v → NoneBegun (x.view w) v.threads → Counts (world_after x w s a v)
-step_kept x w s a v C l can spares weighed f d n = subst (λ (v : View). Counts (world_after x w s a v)) (sym d.1)
-    (answered x w s a d.0 C l can spares weighed f (subst (λ (ts : List Known). NoneBegun (x.view w) ts) (ap (λ (y : View). y.threads) d.1) n))
+pub step_kept : (x : World) (w : ℕ) (s : Step) (a : Answer) (v : View) → Counts x → w < x.workers → Can (x.view w) s → Spares (x.view w) s → HasWork (x.view w) s a → IsWeighed x (x.view w) s → Finds x w s a → Does (x.view w) s a v → NoneBegun (x.view w) v.threads → Counts (world_after x w s a v)
+step_kept x w s a v C l can spares work weighed f d n = subst (λ (v : View). Counts (world_after x w s a v)) (sym d.1)
+    (answered x w s a d.0 C l can spares work weighed f (subst (λ (ts : List Known). NoneBegun (x.view w) ts) (ap (λ (y : View). y.threads) d.1) n))

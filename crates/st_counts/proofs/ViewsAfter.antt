@@ -1,5 +1,5 @@
 -- What steps change of what the count reads of a view. IsQuiet and same_after: the share stays, the turn is as long, and no number comes into an empty
--- hand. changed_after: a State word is changed, where the hand may grow.
+-- hand. changed_after: so too where a change of a State word finds another word; where it stores, the hand may grow.
 use Rattle.std.proofs.Common.{◌≡◌, ◌≢◌, ℕ, zero, suc, Bool, true, false, List, [], ◌∷◌, length, Option, Some, None, refl, ◌==◌}
 use Rattle.st_base.specs.declared.chain.Frame.{Frame}
 use Rattle.st_base.specs.declared.chain.Waiting.{Waiting}
@@ -165,10 +165,15 @@ same_by : (counts : Bool) (c old new : ℕ) (v : View) → SameTurn v (views.cha
 same_by true c old new v = same_counter c old new (head_in new == 0) v
 same_by false c old new v = same_future c old new (new == full_word) v
 
-same_changed : (b : Bool) (c old new n : ℕ) (v : View) → SameTurn v (views.cell_changed b c old new n v)
-same_changed true c old new n v = same_by (views.counts_cell (views.owner_seen c v.owners)) c old new v
-same_changed false c old new n v = (same_state (views.kind_seen c v) c n v).0
+-- by whether it was changed
+abbrev pub SameChange : Bool → View → View → Type 0
+SameChange true u v = SameTurn u v
+SameChange false u v = SameParts u v
 
-pub changed_after : (u : View) (c old new n : ℕ) → SameTurn u (view_after u (CellChange c old new) (Number n))
+same_changed : (b : Bool) (c old new n : ℕ) (v : View) → SameChange b v (views.cell_changed b c old new n v)
+same_changed true c old new n v = same_by (views.counts_cell (views.owner_seen c v.owners)) c old new v
+same_changed false c old new n v = same_state (views.kind_seen c v) c n v
+
+pub changed_after : (u : View) (c old new n : ℕ) → SameChange (n == old) u (view_after u (CellChange c old new) (Number n))
 unfolding view_after
 changed_after u c old new n = same_changed (n == old) c old new n u

@@ -14,7 +14,7 @@ use Rattle.st_words.specs.declared.view.Carried.{Carried}
 use Rattle.st_words.specs.declared.view.Cargo.{Cargo}
 use Rattle.st_words.specs.declared.view.View.{View}
 use Rattle.st_words.specs.Encodings.{ready}
-use Rattle.st_words.specs.Steps.{Step, CellStore, CellChange, ActiveAdd, ActiveLoad, SlotTake, SlotPut, Answer, Number, Took, Can, HasInHand, IsDone, some_thread, taken_share}
+use Rattle.st_words.specs.Steps.{Step, CellStore, CellChange, ActiveAdd, ActiveLoad, SlotTake, SlotPut, Answer, Number, Took, Can, HasInHand, some_thread, taken_share}
 use Rattle.st_words.specs.Views.{Progress, with_progress, without_waiter, Does}
 use Rattle.st_words.specs.Plain.{first_words, first_cargoes, first_views, added}
 use Rattle.st_words.specs.Promises.{Promises, IsActive}
@@ -33,19 +33,18 @@ SparesFor u (Cell c) = Prim.Unit
 SparesFor u (Mail at) = CanSpare u u.hand
 
 -- what a careful step keeps of the count: a waiter's chain is taken, and a waiter made ready, where a unit was added ahead for it; a unit goes where it
--- can be spared; who changes a State word has a thread or a number in hand
+-- can be spared
 abbrev pub Spares : View → Step → Type 0
 Spares u (SlotTake (Cell c)) = HasInHand u c → taken_share u < u.share
 Spares u (SlotPut slot chain cargo) = (cargo.unit ≡ unit_in slot) × SparesFor u slot
 Spares u (CellStore c Standing n) = n ≡ ready → HasInHand u c → (taken_share u < u.share) × CanSpare u (without_waiter c u.hand)
-Spares u (CellChange c old new) = (u.threads ≢ []) ⊎ (u.hand ≢ [])
 Spares u (ActiveAdd false) = CanSpare u u.hand
 Spares u s = Prim.Unit
 
--- who counts up has a thread, whose item that is
-abbrev pub IsItem : View → Step → Type 0
-IsItem u (CellChange c old new) = IsDone u c old new → u.threads ≢ []
-IsItem u s = Prim.Unit
+-- who has changed a State word has a thread or a number in hand; one that found another word than it expected has changed nothing
+abbrev pub HasWork : View → Step → Answer → Type 0
+HasWork u (CellChange c old new) (Number n) = n ≡ old → (u.threads ≢ []) ⊎ (u.hand ≢ [])
+HasWork u s a = Prim.Unit
 
 -- by the item that goes with a step, or that the threads make by themselves, no worker comes to a thread that has none
 abbrev pub NoneBegun : View → List Known → Type 0
@@ -61,7 +60,7 @@ IsWeighed x u s = Prim.Unit
 
 -- each kind of step keeps the count, whatever is answered
 abbrev pub Kept : Type 0
-Kept = (x : World) (w : ℕ) (s : Step) (a : Answer) (v : View) → Counts x → w < x.workers → Can (x.view w) s → Spares (x.view w) s → IsWeighed x (x.view w) s → Finds x w s a → Does (x.view w) s a v → NoneBegun (x.view w) v.threads → Counts (world_after x w s a v)
+Kept = (x : World) (w : ℕ) (s : Step) (a : Answer) (v : View) → Counts x → w < x.workers → Can (x.view w) s → Spares (x.view w) s → HasWork (x.view w) s a → IsWeighed x (x.view w) s → Finds x w s a → Does (x.view w) s a v → NoneBegun (x.view w) v.threads → Counts (world_after x w s a v)
 
 -- so does what a worker does by itself
 pub record MoveLaws : Type 0 where
