@@ -4,3 +4,5 @@ pub mod Items
 pub mod Walks
 pub mod Kept
 pub mod Moves
+pub mod Told
+pub mod Tidy

@@ -82,22 +82,91 @@ module _ (m : Meaning) (g : Groups m) (program : Program) (source : Data) (limit
   there (Cell c) may = g.slots.filled x r.lists w c r.places may
   there (Mail at) may = λ none. let f = g.mail.filled x w at r.requests is may in let e : Some f.0 ≡ None = sym f.1 ∙ none in let no : ⊥ = cc in no
 
-  taken : (slot : Slot) (found : Option Chain) (cargo : Cargo) → Can u (SlotTake slot) → found ≡ slot_of x slot → cargo ≡ cargo_of x slot → (chain : Chain) → slot_of x slot ≡ Some chain → TakenFrom u slot found cargo
-  taken slot found cargo can e k chain at =
-      let f : Finds x w (SlotTake slot) (Took found cargo) = (e, k) in
-      let of = g.slots.of x r.lists slot r.places in
+  some_of : (o : Option Chain) → o ≢ None → (chain : Chain) × (o ≡ Some chain)
+  some_of None n = absurd (n refl)
+  some_of (Some chain) n = (chain, refl)
+
+  from_slot : (slot : Slot) → Can u (SlotTake slot) → TakenFrom u slot (slot_of x slot) (cargo_of x slot)
+  from_slot slot can =
       let here : slot_of x slot ≢ None = there slot can.1 in
+      let is_there = some_of (slot_of x slot) here in
+      let f : Finds x w (SlotTake slot) (Took (slot_of x slot) (cargo_of x slot)) = (refl, refl) in
       let told = g.names_told program source in
+      let of = g.slots.of x r.lists slot r.places in
+      let low = g.slots.below x r.lists slot r.places here in
+      let same = cells_same in
       record {
-        of = of_slot slot found cargo e k;
-        there = λ none. here (sym e ∙ none);
-        cell = of_cell slot found cargo e k;
-        below = of_below slot found cargo e k here;
-        active = λ a. of_active slot found cargo e k can.1 here a;
-        by_hand = λ a. of_hand slot found cargo e k can.1 a;
-        own = λ f1 at1 home. g.leases_told.own x w slot found cargo f1 r.leases is f at1 home;
-        within = λ p n at1. g.leases_told.within x w slot found cargo p n r.leases is f at1;
-        whole = g.leases_told.whole x w slot found cargo r.leases is f;
-        names = λ name some has. of_names slot found cargo e k chain at name some has;
-        names_below = λ name c has. of_names_below slot found cargo e k chain at name c has;
+        of = of.0;
+        there = here;
+        cell = of.1;
+        below = omega (arith, low, same);
+        active = λ a. g.slots.active x r.lists w slot r.places can.1 here a;
+        by_hand = λ a. g.slots.by_hand x r.lists w slot r.places can.1 a;
+        own = λ k at home. g.leases_told.own x w slot (slot_of x slot) (cargo_of x slot) k r.leases is f at home;
+        within = λ p n at. g.leases_told.within x w slot (slot_of x slot) (cargo_of x slot) p n r.leases is f at;
+        whole = g.leases_told.whole x w slot (slot_of x slot) (cargo_of x slot) r.leases is f;
+        names = λ name some has. told.in_slot h x slot is_there.0 name r.names is_there.1 some has;
+        names_below = λ name c at. let b = told.below_in_slot h x slot is_there.0 c name r.names is_there.1 at in omega (arith, b, same);
       }
+
+  taken : (slot : Slot) (found : Option Chain) (cargo : Cargo) → Can u (SlotTake slot) → Finds x w (SlotTake slot) (Took found cargo) → TakenFrom u slot found cargo
+  taken slot found cargo can f =
+      let a : TakenFrom u slot found (cargo_of x slot) = subst (λ (o : Option Chain). TakenFrom u slot o (cargo_of x slot)) (sym f.0) (from_slot slot can) in
+      subst (λ (k : Cargo). TakenFrom u slot found k) (sym f.1) a
+
+  -- ---- each step
+
+  pub told : (s : Step) (a : Answer) → Can u s → Finds x w s a → Promises u s a
+  told (StackLoad p) (Number n) can f = g.leases_told.loads x w p n r.leases can f
+  told (StackStore p n) Done can f = tt
+  told (Mark p) Done can f = tt
+  told (Look p) (Looked n cargo) can f = g.leases_told.looks x w p n cargo r.leases f
+  told (CellLoad c Owner) (Number n) can f = owner_is c n f
+  told (CellLoad c State) (Number n) can f = state_told c n f
+  told (CellLoad c Value) (Number n) can f = g.knows_told.values x w c n r.knows f
+  told (CellLoad c Next) (Number n) can f = λ y at same leads. next_is c n f y at same leads
+  told (CellLoad c Standing) (Number n) can f = tt
+  told (CellLoad c Trap) (Number n) can f = tt
+  told (CellStore c word n) Done can f = tt
+  told (CellChange c old new) (Number n) can f = state_told c n f
+  told Draw (Number n) can f = fresh n f
+  told (ActiveAdd up) (Number n) can f = g.counts_told.adds x w up n r.counts is f
+  told ActiveLoad (Number n) can f = g.counts_told.loads x w n r.counts is f
+  told StopLoad (Number n) can f = g.knows_told.stop_load x w n r.knows f
+  told (StopSet code) (Number n) can f = g.knows_told.stop_set x w code n r.knows f
+  told RootTake (Number n) can f = g.lists_told.takes x r.lists w n f
+  told (RequestLoad at) (Number n) can f = g.requests_told.requests x w at n r.requests is f
+  told (RequestChange at old new) (Number n) can f = g.requests_told.requests x w at n r.requests is f
+  told MailLoad (Number n) can f = g.requests_told.letters x w n r.requests f
+  told (MailStore at n) Done can f = tt
+  told (OutStore i n) Done can f = tt
+  told (SlotTake slot) (Took found cargo) can f = taken slot found cargo can f
+  told (SlotPut slot chain cargo) Done can f = tt
+  told (OutLoad i) (Number n) can f = tt
+  told s a can f = absurd f
+
+  -- ---- a chain that comes
+
+  not_start : (wait : Waiting) → IsWaiting wait → wait ≢ waits.Start
+  not_start waits.Start i e = absurd i
+  not_start waits.Ready i e = absurd i
+  not_start (waits.Touch cell) i e = let no : ⊥ = cc in no
+  not_start (waits.Join cell least) i e = let no : ⊥ = cc in no
+  not_start waits.Trapped i e = absurd i
+
+  stands_for : (slot : Slot) (chain : Chain) (cargo : Cargo) → (IsByHand u slot → IsWaiting cargo.carried.wait) → SlotWalks m slot (Some chain) cargo → m.walks cargo chain × (IsByHand u slot → ShowsPlace m cargo.carried cargo.carried.wait)
+  stands_for (Cell c) chain cargo wait s = (s.0, λ hand. s.1 (not_start cargo.carried.wait (wait hand)))
+  stands_for (Mail at) chain cargo wait s = (s, λ hand. absurd hand)
+
+  pub comes : (slot : Slot) (chain : Chain) (cargo : Cargo) → Can u (SlotTake slot) → Finds x w (SlotTake slot) (Took (Some chain) cargo) → m.walks cargo chain × (IsByHand u slot → ShowsPlace m cargo.carried cargo.carried.wait)
+  comes slot chain cargo can f =
+      let a : SlotWalks m slot (Some chain) (cargo_of x slot) = subst (λ (o : Option Chain). SlotWalks m slot o (cargo_of x slot)) (sym f.0) (r.walks slot) in
+      let b : SlotWalks m slot (Some chain) cargo = subst (λ (k : Cargo). SlotWalks m slot (Some chain) k) (sym f.1) a in
+      stands_for slot chain cargo (λ hand. ((taken slot (Some chain) cargo can f).by_hand hand).2) b
+
+module _ (m : Meaning) (g : Groups m) (program : Program) (source : Data) (limits : Limits) where
+  pub rule_told : RuleTold m program source limits
+  rule_told h0 h x w s a r is can f = told m g program source limits h0 h x r w is s a can f
+
+  pub rule_comes : RuleComes m program source limits
+  rule_comes h0 h x w slot chain cargo r is can f = comes m g program source limits h0 h x r w is slot chain cargo can f

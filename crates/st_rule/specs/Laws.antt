@@ -50,7 +50,7 @@ module _ (m : Meaning) (program : Program) (source : Data) (limits : Limits) whe
   -- ---- what follows
 
   abbrev pub RuleTold : Type 0
-  RuleTold = (h0 h : Heap) (x : World) (w : ℕ) (s : Step) (a : Answer) → Rule m program source limits h0 h x → w < x.workers → Can (x.view w) s → Careful m (x.view w) s → Finds x w s a → Promises (x.view w) s a
+  RuleTold = (h0 h : Heap) (x : World) (w : ℕ) (s : Step) (a : Answer) → Rule m program source limits h0 h x → w < x.workers → Can (x.view w) s → Finds x w s a → Promises (x.view w) s a
 
   abbrev pub RuleTidy : Type 0
   RuleTidy = (h0 h : Heap) (x : World) (w : ℕ) → Rule m program source limits h0 h x → w < x.workers → Tidy (x.view w)
