@@ -71,3 +71,13 @@ module _ (m : Meaning) (program : Program) (source : Data) (limits : Limits) whe
   -- a board that is opened for the root's thread has the rule
   abbrev pub RuleOpened : Type 0
   RuleOpened = (s : State) (workers : ℕ) → IsMeant m program source limits → start program source ≡ Some s → workers ≤ 31 → Rule m program source limits (first_heap s) (first_heap s) (world_of (limits.stack / 8) (first_words limits workers) (first_cargoes limits workers (new_thread s.top s.registers)) (first_views limits workers))
+
+-- all of them, for any program and input and any limits
+pub record RuleLaws (m : Meaning) : Type 0 where
+  pub kept : (program : Program) (source : Data) (limits : Limits) → RuleKept m program source limits
+  pub moves : (program : Program) (source : Data) (limits : Limits) → RuleMoves m program source limits
+  pub told : (program : Program) (source : Data) (limits : Limits) → RuleTold m program source limits
+  pub tidy : (program : Program) (source : Data) (limits : Limits) → RuleTidy m program source limits
+  pub comes : (program : Program) (source : Data) (limits : Limits) → RuleComes m program source limits
+  pub rests : (program : Program) (source : Data) (limits : Limits) → RuleRests m program source limits
+  pub opened : (program : Program) (source : Data) (limits : Limits) → RuleOpened m program source limits

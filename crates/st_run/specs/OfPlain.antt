@@ -1,0 +1,22 @@
+-- When a board over vectors is for a program: PlainIsFor, the rule over the world that its vectors show, with a heap that the heap-frame machine reaches behind it.
+use Rattle.std.specs.Prelude.{◌≡◌, ◌/◌, List, Some}
+use Rattle.st_base.specs.declared.limits.Limits.{Limits}
+use Rattle.st_words.specs.declared.view.View.{View}
+use Rattle.st_words.specs.declared.words.Words.{Words}
+use Rattle.st_words.specs.Plain.{Cargoes}
+use Rattle.st_model.specs.declared.program.Program.{Program}
+use Rattle.st_model.specs.declared.ordinary.State.{State}
+use Rattle.st_model.specs.Memory.{Data}
+use Rattle.st_model.specs.Ordinary.{start}
+use Rattle.st_model.specs.Heap.{Heap, first_heap}
+use Rattle.st_world.specs.Laws.{IsWhole}
+use Rattle.st_world.specs.OfPlain.{world_of}
+use Rattle.st_rule.specs.Rule.{Rule}
+use Rattle.st_run.specs.Meanings.{meaning}
+
+pub record PlainIsFor (p : Program) (d : Data) (limits : Limits) (x : Words) (ls : Cargoes) (vs : List View) : Type 0 where
+  pub whole : IsWhole (limits.stack / 8) x ls vs
+  pub first : State
+  pub is_first : start p d ≡ Some first
+  pub heap : Heap
+  pub rule : Rule (meaning p d limits) p d limits (first_heap first) heap (world_of (limits.stack / 8) x ls vs)
