@@ -10,10 +10,8 @@ use Rattle.st_base.specs.declared.thread.Held.{Held}
 use Rattle.st_base.specs.declared.thread.Held.TheVariants.{Number, Future, Counter}
 use Rattle.st_base.specs.declared.thread.Thread.{Thread}
 use Rattle.st_model.specs.declared.program.Program.{Program}
-use Rattle.st_model.specs.declared.code.Layout.TheVariants.{Postprocessed}
 use Rattle.st_model.specs.Effect.{File}
 use Rattle.st_model.specs.Heap.{new_thread}
-use Rattle.st_model.specs.Layout.{function_address}
 use Rattle.st_model.specs.Memory.{Data}
 use Rattle.st_model.specs.Ordinary.{start}
 use Rattle.st_model.specs.declared.ordinary.State.{State}
@@ -59,14 +57,13 @@ StandsOver p names held end wait pc fp value thread frames =
 abbrev pub StandsFor : Program → List (Held × ℕ) → List (Option ℕ) → Waiting → ℕ → ℕ → (ℕ → ℕ) → Thread → List Frame → Type 0
 StandsFor p names held wait pc fp value thread frames = StandsOver p names held AtEnd wait pc fp value thread frames
 
--- the root, which hasn't begun: it has no frame, and its place is that of `main`
+-- the root, which hasn't begun: it has no frame. Nothing is said of its place and its registers, since whoever takes it begins `main`.
 pub record IsUnbegun (p : Program) (d : Data) (chain : Chain) (thread : Thread) (frames : List Frame) : Type 0 where
   pub wait : chain.wait ≡ waits.Start
   pub first : State
   pub begins : start p d ≡ Some first
   pub root : thread ≡ new_thread first.top first.registers
   pub none : frames ≡ []
-  pub at : chain.pc ≡ function_address Postprocessed p p.main
 
 -- a chain stands for the thread that goes with it
 abbrev pub Walks : Program → Data → Chain → Cargo → Type 0
