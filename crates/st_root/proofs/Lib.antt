@@ -1,4 +1,0 @@
-pub mod ViewsAfter
-pub mod Steps
-pub mod Follows
-pub mod Firsts

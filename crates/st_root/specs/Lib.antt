@@ -1,2 +1,0 @@
-pub mod Rooting
-pub mod Laws
