@@ -1,6 +1,6 @@
 -- A board that is opened counts the root's chain as active, and nothing else: first_counts.
-use Rattle.std.proofs.Common.{◌≡◌, ◌≢◌, ℕ, zero, suc, ◌+◌, ◌<◌, ◌≤◌, true, length, replicate, Option, Some, None, refl, sym, ap, ◌∙◌, subst, arith, slice_set, slice_index_or, length-set, get_or-set_same, get_or-set_other}
-use Rattle.std.proofs.lemmas.List.{length-replicate, get_or-replicate, get_or_past}
+use Rattle.std.proofs.Common.{◌≡◌, ◌≢◌, ℕ, zero, suc, ◌+◌, ◌<◌, ◌≤◌, true, length, replicate, Option, Some, None, refl, sym, ap, ◌∙◌, subst, arith, length-set}
+use Rattle.std.proofs.lemmas.List.{length-replicate, get_or_past}
 use Rattle.std.proofs.Math.Decide.{dec_le}
 use mathlib.Core.Logic.{dite}
 use native.Mathlib.Decide.{ℕ_discrete}
@@ -16,21 +16,11 @@ use Rattle.st_words.proofs.Opening.{first_view_at, first_views_count}
 use Rattle.st_world.specs.Functions.{total}
 use Rattle.st_world.specs.OfPlain.{reading_slot, reading_cargo}
 use Rattle.st_world.proofs.Functions.{total_put}
+use Rattle.st_world.proofs.Opened.{alike, led_first, led_other}
 use Rattle.st_counts.specs.Counting.{units, shares, filling, Counting}
 use Rattle.st_counts.specs.Laws.{First}
 
 -- ---- lists and sums
-
-alike : {X : Type 0} (n i : ℕ) (x : X) → slice_index_or (replicate n x) i x ≡ x
-alike {X} n i x = dite (dec_le (suc i) n)
-    (λ (l : suc i ≤ n). get_or-replicate n i x x l)
-    (λ (o : suc i ≤ n → ⊥). let count : length (replicate n x) ≡ n = length-replicate n x in get_or_past (replicate n x) i x (omega arith))
-
-led_first : {X : Type 0} (n : ℕ) (x y : X) → 0 < n → slice_index_or (slice_set (replicate n x) 0 y) 0 x ≡ y
-led_first {X} n x y l = let count : length (replicate n x) ≡ n = length-replicate n x in get_or-set_same (replicate n x) 0 y x (omega (arith, count, l))
-
-led_other : {X : Type 0} (n i : ℕ) (x y : X) → i ≢ 0 → slice_index_or (slice_set (replicate n x) 0 y) i x ≡ x
-led_other {X} n i x y d = get_or-set_other (replicate n x) 0 i y x d ∙ alike n i x
 
 total_zero : (f : ℕ → ℕ) (n : ℕ) → ((i : ℕ) → f i ≡ 0) → total f n ≡ 0
 total_zero f zero e = refl

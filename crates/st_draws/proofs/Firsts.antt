@@ -1,7 +1,7 @@
 -- A board that is opened has drawn the root's number, and named its cell: first_draws.
 use Rattle.std.proofs.Common.{◌≡◌, ◌≢◌, inl, ℕ, suc, ◌<◌, ◌≤◌, List, [], length, replicate, refl, sym, ap, ◌∙◌, subst, arith, slice_set, slice_index_or, length-set, get_or-set_same, get_or-set_other}
 use Rattle.std.specs.List.{Contains}
-use Rattle.std.proofs.lemmas.List.{length-replicate, get_or-replicate, get_or_past}
+use Rattle.std.proofs.lemmas.List.{length-replicate, get_or_past}
 use Rattle.std.proofs.Math.Decide.{dec_le}
 use mathlib.Core.Logic.{dite}
 use native.Mathlib.Decide.{ℕ_discrete}
@@ -11,13 +11,9 @@ use Rattle.st_words.specs.Plain.{view_at, no_view, first_views, first_words}
 use Rattle.st_words.proofs.Lists.{contains_none}
 use Rattle.st_words.proofs.Opening.{first_view_at, first_views_count}
 use Rattle.st_world.specs.OfPlain.{reading}
+use Rattle.st_world.proofs.Opened.{alike}
 use Rattle.st_draws.specs.Drawing.{Drawing}
 use Rattle.st_draws.specs.Laws.{First}
-
-alike : (n i x : ℕ) → slice_index_or (replicate n x) i x ≡ x
-alike n i x = dite (dec_le (suc i) n)
-    (λ (l : suc i ≤ n). get_or-replicate n i x x l)
-    (λ (o : suc i ≤ n → ⊥). let count : length (replicate n x) ≡ n = length-replicate n x in get_or_past (replicate n x) i x (omega arith))
 
 led : (n x y : ℕ) → 0 < n → slice_index_or (slice_set (replicate n x) 0 y) 0 x ≡ y
 led n x y l = let count : length (replicate n x) ≡ n = length-replicate n x in get_or-set_same (replicate n x) 0 y x (omega (arith, count, l))

@@ -8,7 +8,8 @@ use Rattle.st_words.specs.declared.view.Cargo.{Cargo}
 use Rattle.st_words.specs.declared.view.View.{View}
 use Rattle.st_words.specs.Steps.{Inside, return_place, place_of, home_of, kept, IsLeased, Holds}
 use Rattle.st_words.proofs.Lists.{inside_case, contains_here, contains_later, contains_case}
-use Rattle.st_leases.specs.Leasing.{InView, Keeping, WordHolds, ViewHolds, Leases}
+use Rattle.st_world.specs.Holders.{InView}
+use Rattle.st_leases.specs.Leasing.{Keeping, WordHolds, ViewHolds, Leases}
 use Rattle.st_leases.proofs.Shifts.{one, view_slot, view_nobody, view_other, assembled}
 use Rattle.st_leases.proofs.Changes.{within, within_in, within_out, Around, around_bare, leased_word, free_word, knows}
 

@@ -1,7 +1,7 @@
 -- A board that is opened has the leases: first_leases. All words are 0, each worker holds those of its own stack, and no frame is leased.
 use Rattle.std.proofs.Common.{◌≡◌, ◌≢◌, ◌⊎◌, inl, inr, ⊎_elim, ℕ, zero, suc, ◌+◌, ◌*◌, ◌/◌, ◌<◌, ◌≤◌, Bool, true, false, cond, ◌&&◌, nat_le, nat_lt, List, length, replicate, Option, Some, None, refl, sym, ap, ◌∙◌, subst, arith, slice_set, slice_index_or, get_or-set_same, get_or-set_other}
 use Rattle.std.specs.List.{Contains}
-use Rattle.std.proofs.lemmas.List.{length-replicate, get_or-replicate, get_or_past}
+use Rattle.std.proofs.lemmas.List.{length-replicate, get_or_past}
 use Rattle.std.proofs.lemmas.List.FromFn.{length-map-range_with_len, get_or-map-range_with_len}
 use Rattle.std.proofs.lemmas.Bool.{le-leb, lt-ltb, ltb-true}
 use Rattle.std.proofs.lemmas.Bool.Decides.{leb_tells}
@@ -23,16 +23,13 @@ use Rattle.st_words.proofs.Lists.{kept_within, both_true, contains_none}
 use Rattle.st_words.proofs.Opening.{first_view_at, first_views_count}
 use Rattle.st_world.specs.World.{slot_of, cargo_of}
 use Rattle.st_world.specs.OfPlain.{world_of, reading, reading_cargo}
-use Rattle.st_leases.specs.Leasing.{InView, Keeping, IsBare, IsSized, ViewHolds, SlotHolds, Leases}
+use Rattle.st_world.proofs.Opened.{alike}
+use Rattle.st_world.specs.Holders.{InView}
+use Rattle.st_leases.specs.Leasing.{Keeping, IsBare, IsSized, ViewHolds, SlotHolds, Leases}
 use Rattle.st_leases.specs.Laws.{First}
 use Rattle.st_leases.proofs.Shifts.{some_none, one, view_slot, kept_nothing}
 
 -- ---- lists
-
-alike : {X : Type 0} (n i : ℕ) (x : X) → slice_index_or (replicate n x) i x ≡ x
-alike {X} n i x = dite (dec_le (suc i) n)
-    (λ (l : suc i ≤ n). get_or-replicate n i x x l)
-    (λ (o : suc i ≤ n → ⊥). let count : length (replicate n x) ≡ n = length-replicate n x in get_or_past (replicate n x) i x (omega arith))
 
 -- all alike but the first
 led : {X : Type 0} (P : X → Type 0) (n i : ℕ) (x y : X) → P x → P y → P (slice_index_or (slice_set (replicate n x) 0 y) i x)

@@ -11,7 +11,8 @@ use Rattle.st_words.specs.Careful.{Meaning, Careful}
 use Rattle.st_words.specs.Moves.{MayExport, exporting}
 use Rattle.st_world.specs.Functions.{put}
 use Rattle.st_world.specs.World.{World, slot_of, cargo_of, seen}
-use Rattle.st_leases.specs.Leasing.{InView, InSlot, Leasing}
+use Rattle.st_world.specs.Holders.{InView, InSlot}
+use Rattle.st_leases.specs.Leasing.{Leasing}
 use Rattle.st_leases.specs.Laws.{Tends, MoveLaws, HeldLaws, ToldLaws}
 use Rattle.st_leases.proofs.Shifts.{one, view_slot, view_nobody}
 use Rattle.st_leases.proofs.Changes.{put_here, is_leased, leased_word}

@@ -10,11 +10,7 @@ use Rattle.st_words.specs.declared.view.Cargo.{Cargo}
 use Rattle.st_words.specs.declared.view.View.{View}
 use Rattle.st_words.specs.Steps.{Inside, return_place, home_of, kept}
 use Rattle.st_world.specs.World.{World, slot_of, cargo_of}
-
-pub data Holder : Type 0 where
-  InView : ℕ → Holder
-  InSlot : Slot → Holder
-  Nobody : Holder
+use Rattle.st_world.specs.Holders.{Holder, InView, InSlot, Nobody}
 
 -- the holder of each word, and the leased frame in which it lies
 pub record Keeping : Type 0 where

@@ -1,7 +1,6 @@
 -- A board that is opened has no list, no number in a hand and none that is ready, and its root may be found: first_lists.
-use Rattle.std.proofs.Common.{◌≡◌, ◌≢◌, ⊎_elim, ℕ, suc, ◌≤◌, ◌<◌, false, List, [], length, replicate, Some, None, refl, sym, ap, ◌∙◌, subst, arith, slice_index_or, length-set}
-use Rattle.std.proofs.lemmas.List.{length-replicate, get_or-replicate, get_or_past}
-use Rattle.std.proofs.Math.Decide.{dec_le}
+use Rattle.std.proofs.Common.{◌≡◌, ◌≢◌, ⊎_elim, ℕ, ◌<◌, false, List, [], length, replicate, Some, None, refl, sym, ap, ◌∙◌, subst, arith, length-set}
+use Rattle.std.proofs.lemmas.List.{length-replicate}
 use mathlib.Core.Logic.{dite}
 use native.Mathlib.Decide.{ℕ_discrete}
 use Rattle.st_base.specs.declared.chain.Waiting.{Waiting}
@@ -9,12 +8,13 @@ use Rattle.st_base.specs.declared.chain.Waiting.TheVariants as waits
 use Rattle.st_base.specs.declared.limits.Limits.{Limits}
 use Rattle.st_words.specs.declared.view.Waiter.{Waiter}
 use Rattle.st_words.specs.declared.view.View.{View}
-use Rattle.st_words.specs.Plain.{view_at, no_view, first_view, first_views, first_words}
+use Rattle.st_words.specs.Plain.{view_at, first_views, first_words}
 use Rattle.st_words.proofs.Lists.{contains_none}
 use Rattle.st_words.proofs.Opening.{first_view_at, first_views_count}
 use Rattle.st_world.specs.Functions.{put}
 use Rattle.st_world.specs.OfPlain.{reading}
 use Rattle.st_world.proofs.Functions.{put_here, put_other, put_case}
+use Rattle.st_world.proofs.Opened.{alike, view_part}
 use Rattle.st_lists.specs.Listing.{Spot, Nowhere, Listed, Held, Behind, Readied, Rooted, HandHolds, ReadyHolds, Listing, Rooting, head_by, hands, readies, finders, counters}
 use Rattle.st_lists.specs.Laws.{First}
 use Rattle.st_lists.proofs.Apart.{nowhere_listed, nowhere_held, nowhere_behind, nowhere_readied, rooted_listed, rooted_held, rooted_behind, rooted_readied}
@@ -41,18 +41,7 @@ other_first : (c : ℕ) → c ≢ 0 → first_spot c ≡ Nowhere
 unfolding first_spot
 other_first c d = put_other (λ (d : ℕ). Nowhere) 0 (Rooted None) c d
 
-alike : {X : Type 0} (n i : ℕ) (x : X) → slice_index_or (replicate n x) i x ≡ x
-alike {X} n i x = dite (dec_le (suc i) n)
-    (λ (l : suc i ≤ n). get_or-replicate n i x x l)
-    (λ (o : suc i ≤ n → ⊥). let count : length (replicate n x) ≡ n = length-replicate n x in get_or_past (replicate n x) i x (omega arith))
-
 module _ (limits : Limits) (n : ℕ) where
-  -- a part that is the same in the first views and in a view that isn't there
-  part : {X : Type 0} (get : View → X) (x : X) → ((w : ℕ) → get (first_view limits n w) ≡ x) → get no_view ≡ x → (w : ℕ) → get (view_at (first_views limits n) w) ≡ x
-  part {X} get x there none w = dite (dec_le (suc w) n)
-      (λ (l : suc w ≤ n). ap get (first_view_at limits n w l) ∙ there w)
-      (λ (o : suc w ≤ n → ⊥). let count : length (first_views limits n) ≡ n = first_views_count limits n (first_views limits n) refl in ap get (get_or_past (first_views limits n) w no_view (omega arith)) ∙ none)
-
   state_word : (c : ℕ) → reading (first_words limits n).states c ≡ 0
   unfolding first_words
   state_word c = alike limits.cells c 0
@@ -75,16 +64,16 @@ module _ (limits : Limits) (n : ℕ) where
   first_listing workers owner next = record {
     lists = λ c. ([], ap (head_by (counters owner c)) (state_word c) ∙ head_zero (counters owner c), λ d k e. first_none (Listed c k) nowhere_listed rooted_listed d e);
     waiting = λ d c k e. absurd (first_none (Listed c k) nowhere_listed rooted_listed d e);
-    hands = λ w. subst (λ (h : List Waiter). HandHolds workers first_spot first_wait next w h) (sym (part (λ v. v.hand) [] (λ w. refl) refl w)) (no_hand workers next w);
+    hands = λ w. subst (λ (h : List Waiter). HandHolds workers first_spot first_wait next w h) (sym (view_part limits n (λ v. v.hand) [] (λ w. refl) refl w)) (no_hand workers next w);
     behind = λ d w c k e. absurd (first_none (Behind w c k) nowhere_behind rooted_behind d e);
-    readies = λ w. subst (λ (r : List ℕ). ReadyHolds workers first_spot first_wait next w r) (sym (part (λ v. v.ready) [] (λ w. refl) refl w)) (no_ready workers next w);
+    readies = λ w. subst (λ (r : List ℕ). ReadyHolds workers first_spot first_wait next w r) (sym (view_part limits n (λ v. v.ready) [] (λ w. refl) refl w)) (no_ready workers next w);
   }
 
   first_rooting : Rooting first_spot (first_words limits n).root (finders (view_at (first_views limits n)))
   first_rooting = record {
     untaken = λ e. root_first;
     taken = λ e. root_word;
-    finder = λ w e. let f = part (λ v. v.root) false (λ w. refl) refl w in let no : ⊥ = cc in absurd no;
+    finder = λ w e. let f = view_part limits n (λ v. v.root) false (λ w. refl) refl w in let no : ⊥ = cc in absurd no;
     finds = λ w e. let t : Rooted None ≡ Rooted (Some w) = sym root_first ∙ e in let no : ⊥ = cc in absurd no;
   }
 

@@ -1,4 +1,5 @@
 pub mod Functions
 pub mod World
+pub mod Holders
 pub mod OfPlain
 pub mod Laws
