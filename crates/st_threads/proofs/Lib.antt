@@ -1,1 +1,9 @@
-
+pub mod Keepers
+pub mod Lists
+pub mod Holdings
+pub mod Items
+pub mod Slots
+pub mod ViewsAfter
+pub mod Steps
+pub mod Moves
+pub mod Firsts

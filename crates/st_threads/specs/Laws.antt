@@ -1,6 +1,6 @@
 -- The laws of who holds each thread, over worlds with a heap behind. Read StepGoes and MoveGoes (the item that goes with a step or a move takes the heap on by at most one
 -- step of the machine), Kept and MovesKept (each step, and each move between steps, keeps who holds what), ToldLaws (what follows) and First.
-use Rattle.std.specs.Prelude.{◌≡◌, ◌≢◌, ◌⊎◌, ℕ, ◌/◌, ◌<◌, List, [], ◌∷◌, Option, Some, None}
+use Rattle.std.specs.Prelude.{◌≡◌, ◌⊎◌, ℕ, ◌/◌, ◌<◌, Some, None}
 use Rattle.std.specs.List.{Contains}
 use Rattle.st_base.specs.declared.chain.Chain.{Chain}
 use Rattle.st_base.specs.declared.limits.Limits.{Limits}
@@ -16,7 +16,7 @@ use Rattle.st_words.specs.Careful.{Meaning, Careful}
 use Rattle.st_model.specs.declared.program.Program.{Program}
 use Rattle.st_model.specs.declared.ordinary.State.{State}
 use Rattle.st_model.specs.Memory.{Data}
-use Rattle.st_model.specs.Heap.{Path, Heap, HStep, HasEnded, new_thread, first_heap}
+use Rattle.st_model.specs.Heap.{Path, Heap, HStep, new_thread, first_heap}
 use Rattle.st_made.specs.Items.{IsLive}
 use Rattle.st_made.specs.Runs.{AreIn, HasSeen, all_known}
 use Rattle.st_made.specs.Moves.{OneMove}
