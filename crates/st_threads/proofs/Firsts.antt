@@ -1,6 +1,6 @@
 -- A board that is opened for the root's thread has the first heap behind it: first_threads.
-use Rattle.std.proofs.Common.{◌≡◌, ◌≢◌, ⊎_elim, ℕ, suc, ◌/◌, ◌<◌, ◌≤◌, List, [], ◌∷◌, ◌++◌, length, replicate, Option, Some, None, refl, sym, ap, ◌∙◌, subst, arith, slice_set, slice_index_or, get_or-set_same, get_or-set_other}
-use Rattle.std.proofs.lemmas.List.{length-replicate, get_or-replicate, get_or_past}
+use Rattle.std.proofs.Common.{◌≡◌, ◌≢◌, ⊎_elim, ℕ, suc, ◌/◌, ◌<◌, ◌≤◌, List, [], ◌∷◌, ◌++◌, length, Option, Some, None, refl, sym, ap, ◌∙◌, subst, arith}
+use Rattle.std.proofs.lemmas.List.{get_or_past}
 use Rattle.std.proofs.Math.Decide.{dec_le}
 use mathlib.Core.Logic.{dite}
 use Rattle.st_base.specs.declared.chain.Chain.{Chain}
@@ -21,23 +21,14 @@ use Rattle.st_laws.proofs.First.{no_child, alone_thread}
 use Rattle.st_made.specs.Runs.{all_known}
 use Rattle.st_world.specs.World.{World, slot_of, cargo_of}
 use Rattle.st_world.specs.OfPlain.{world_of}
-use Rattle.st_threads.specs.Holding.{Keeper, InView, InSlot, Nobody, times, HasThreads, SlotHas, Holding}
+use Rattle.st_world.specs.Holders.{Holder, InView, InSlot, Nobody}
+use Rattle.st_world.proofs.Opened.{alike, led_first, led_other}
+use Rattle.st_threads.specs.Holding.{times, HasThreads, SlotHas, Holding}
 use Rattle.st_threads.specs.Laws.{First}
 use Rattle.st_threads.proofs.Keepers.{times_none}
 use Rattle.st_threads.proofs.Holdings.{same_slot, slot_not_view, slot_not_nobody}
 
 -- ---- lists
-
-alike : {X : Type 0} (n i : ℕ) (x : X) → slice_index_or (replicate n x) i x ≡ x
-alike {X} n i x = dite (dec_le (suc i) n)
-    (λ (l : suc i ≤ n). get_or-replicate n i x x l)
-    (λ (o : suc i ≤ n → ⊥). let count : length (replicate n x) ≡ n = length-replicate n x in get_or_past (replicate n x) i x (omega arith))
-
-led_first : {X : Type 0} (n : ℕ) (x y : X) → 0 < n → slice_index_or (slice_set (replicate n x) 0 y) 0 x ≡ y
-led_first {X} n x y l = let count : length (replicate n x) ≡ n = length-replicate n x in get_or-set_same (replicate n x) 0 y x (omega (arith, count, l))
-
-led_other : {X : Type 0} (n i : ℕ) (x y : X) → i ≢ 0 → slice_index_or (slice_set (replicate n x) 0 y) i x ≡ x
-led_other {X} n i x y d = get_or-set_other (replicate n x) 0 i y x d ∙ alike n i x
 
 module _ (s : State) (limits : Limits) (workers : ℕ) where
   abbrev thread : Thread
@@ -50,7 +41,7 @@ module _ (s : State) (limits : Limits) (workers : ℕ) where
   x = world_of (limits.stack / 8) (first_words limits workers) (first_cargoes limits workers thread) (first_views limits workers)
 
   -- the root's thread is in its cell's slot, and nobody has another one
-  abbrev keeper : Path → Keeper
+  abbrev keeper : Path → Holder
   keeper = put [] (InSlot (Cell 0)) (λ p. Nobody)
 
   some_cells : 0 < limits.cells
@@ -73,7 +64,7 @@ module _ (s : State) (limits : Limits) (workers : ℕ) where
   holds = put_same [] (InSlot (Cell 0)) (λ p. Nobody)
 
   -- a keeper of a path is the root's slot, and it is the root's path, or it is nobody
-  by_keeper : (P : Type 0) (p : Path) (k : Keeper) → keeper p ≡ k → (p ≡ [] → InSlot (Cell 0) ≡ k → P) → (Nobody ≡ k → P) → P
+  by_keeper : (P : Type 0) (p : Path) (k : Holder) → keeper p ≡ k → (p ≡ [] → InSlot (Cell 0) ≡ k → P) → (Nobody ≡ k → P) → P
   by_keeper P p k e root other = ⊎_elim
       (λ (is : p ≡ []). root is (sym holds ∙ (ap keeper (sym is) ∙ e)))
       (λ (n : p ≢ []). other (sym (put_other [] p (InSlot (Cell 0)) (λ q. Nobody) n) ∙ e))

@@ -18,7 +18,8 @@ use Rattle.st_made.proofs.Lists.{known_of_path}
 use Rattle.st_world.specs.Functions.{put}
 use Rattle.st_world.specs.World.{World, slot_of, cargo_of}
 use Rattle.st_world.proofs.Functions.{put_all}
-use Rattle.st_threads.specs.Holding.{Keeper, InView, InSlot, Nobody, HasThreads, HasThreadOf, SlotHas, Holding, IsOf, Threads}
+use Rattle.st_world.specs.Holders.{Holder, InView, InSlot, Nobody}
+use Rattle.st_threads.specs.Holding.{HasThreads, HasThreadOf, SlotHas, Holding, IsOf, Threads}
 use Rattle.st_threads.specs.Laws.{ToldLaws}
 use Rattle.st_threads.proofs.Keepers.{times_at, times_most, kept_by, Leaves, view_left, slot_left, stay_leaves}
 use Rattle.st_threads.proofs.Lists.{count, times_both}
@@ -36,7 +37,7 @@ module _ (h : Heap) (slot : Slot → Option Chain) (cargo : Slot → Cargo) (vie
   pub in_slot : (q : Path) (z : Slot) → r.keeper q ≡ InSlot z → (b : Chain) × (slot z ≡ Some b) × HasThreadOf h r.keeper z (cargo z).carried.known
   in_slot q z e = in_slot_by q z (slot z) refl (r.slots z) e
 
-  none_by : (q : Path) (k : Keeper) → r.keeper q ≡ k → h.thread q ≡ None → k ≡ Nobody
+  none_by : (q : Path) (k : Holder) → r.keeper q ≡ k → h.thread q ≡ None → k ≡ Nobody
   none_by q (InView w) e none =
       let t = in_view q w e in
       let there : h.thread q ≡ Some t.0.thread = subst (λ (p : Path). h.thread p ≡ Some t.0.thread) t.2 ((r.views w).each t.0 t.1).there in
@@ -59,7 +60,7 @@ module _ (h : Heap) (slot : Slot → Option Chain) (cargo : Slot → Cargo) (vie
 -- ---- what keeps it
 
 -- no thread that hasn't ended is without a keeper
-abbrev pub AreHeld : Heap → (Path → Keeper) → Type 0
+abbrev pub AreHeld : Heap → (Path → Holder) → Type 0
 AreHeld h keeper = (p : Path) (t : Thread) → h.thread p ≡ Some t → IsLive t.standing → keeper p ≢ Nobody
 
 pub slot_not_view : (z : Slot) (w : ℕ) → InSlot z ≢ InView w
@@ -71,7 +72,7 @@ view_not_nobody w e = cc
 pub slot_not_nobody : (z : Slot) → InSlot z ≢ Nobody
 slot_not_nobody z e = cc
 
-pub with_view : (h h' : Heap) (slot : Slot → Option Chain) (cargo : Slot → Cargo) (view : ℕ → View) (w : ℕ) (v : View) (r : Holding h slot cargo view) (keeper : Path → Keeper) → ((k : Keeper) → k ≢ InView w → k ≢ Nobody → Leaves h h' r.keeper keeper k) → HasThreads h' keeper w (all_known v) → AreHeld h' keeper → IsNumbered h' → Holding h' slot cargo (put view w v)
+pub with_view : (h h' : Heap) (slot : Slot → Option Chain) (cargo : Slot → Cargo) (view : ℕ → View) (w : ℕ) (v : View) (r : Holding h slot cargo view) (keeper : Path → Holder) → ((k : Holder) → k ≢ InView w → k ≢ Nobody → Leaves h h' r.keeper keeper k) → HasThreads h' keeper w (all_known v) → AreHeld h' keeper → IsNumbered h' → Holding h' slot cargo (put view w v)
 with_view h h' slot cargo view w v r keeper leaves has held numbered = record {
   keeper = keeper;
   views = λ q. put_all (λ (j : ℕ) (u : View). HasThreads h' keeper j (all_known u)) view w v q
@@ -104,7 +105,7 @@ same_slot (Cell a) (Mail b) = inr (λ e. cc)
 same_slot (Mail a) (Cell b) = inr (λ e. cc)
 same_slot (Mail a) (Mail b) = ⊎_elim (λ (e : a ≡ b). inl (ap Mail e)) (λ (n : a ≢ b). inr (λ e. n cc)) (cases_eq a b)
 
-pub with_slot : (h : Heap) (slot slot' : Slot → Option Chain) (cargo cargo' : Slot → Cargo) (view : ℕ → View) (w : ℕ) (v : View) (y : Slot) (r : Holding h slot cargo view) (keeper : Path → Keeper) → ((z : Slot) → z ≢ y → (slot' z ≡ slot z) × (cargo' z ≡ cargo z)) → ((k : Keeper) → k ≢ InView w → k ≢ InSlot y → Leaves h h r.keeper keeper k) → HasThreads h keeper w (all_known v) → SlotHas h keeper y (slot' y) (cargo' y) → AreHeld h keeper → Holding h slot' cargo' (put view w v)
+pub with_slot : (h : Heap) (slot slot' : Slot → Option Chain) (cargo cargo' : Slot → Cargo) (view : ℕ → View) (w : ℕ) (v : View) (y : Slot) (r : Holding h slot cargo view) (keeper : Path → Holder) → ((z : Slot) → z ≢ y → (slot' z ≡ slot z) × (cargo' z ≡ cargo z)) → ((k : Holder) → k ≢ InView w → k ≢ InSlot y → Leaves h h r.keeper keeper k) → HasThreads h keeper w (all_known v) → SlotHas h keeper y (slot' y) (cargo' y) → AreHeld h keeper → Holding h slot' cargo' (put view w v)
 with_slot h slot slot' cargo cargo' view w v y r keeper others leaves has full held = record {
   keeper = keeper;
   views = λ q. put_all (λ (j : ℕ) (u : View). HasThreads h keeper j (all_known u)) view w v q
@@ -139,7 +140,7 @@ module _ (h : Heap) (x : World) (r : Threads h x) where
   not_both w z b t m n e = slot_not_view z w (sym (full z b n).holds ∙ (ap r.keeper (sym e) ∙ in_worker w t m))
 
   -- by its keeper
-  where_is : (p : Path) (t : Thread) (k : Keeper) → r.keeper p ≡ k → h.thread p ≡ Some t → IsLive t.standing → ((w : ℕ) × (k : Known) × Contains (all_known (x.view w)) k × (k.path ≡ p) × (k.thread ≡ t)) ⊎ ((z : Slot) × (b : Chain) × (slot_of x z ≡ Some b) × ((cargo_of x z).carried.known.path ≡ p) × ((cargo_of x z).carried.known.thread ≡ t))
+  where_is : (p : Path) (t : Thread) (k : Holder) → r.keeper p ≡ k → h.thread p ≡ Some t → IsLive t.standing → ((w : ℕ) × (k : Known) × Contains (all_known (x.view w)) k × (k.path ≡ p) × (k.thread ≡ t)) ⊎ ((z : Slot) × (b : Chain) × (slot_of x z ≡ Some b) × ((cargo_of x z).carried.known.path ≡ p) × ((cargo_of x z).carried.known.thread ≡ t))
   where_is p t (InView w) e here live =
       let k = in_view h (slot_of x) (cargo_of x) x.view r p w e in
       let there : h.thread p ≡ Some k.0.thread = subst (λ (q : Path). h.thread q ≡ Some k.0.thread) k.2 ((r.views w).each k.0 k.1).there in

@@ -22,7 +22,8 @@ use Rattle.st_made.proofs.Lists.{times_here, known_here}
 use Rattle.st_made.proofs.Running.{own_after}
 use Rattle.st_world.specs.Functions.{put}
 use Rattle.st_threads.specs.Behind.{heap_on}
-use Rattle.st_threads.specs.Holding.{Keeper, InView, Nobody, IsOf, HasThreads, Holding}
+use Rattle.st_world.specs.Holders.{Holder, InView, Nobody}
+use Rattle.st_threads.specs.Holding.{IsOf, HasThreads, Holding}
 use Rattle.st_threads.proofs.Keepers.{times_most, once_more, once_less, kept_by, is_there, stay_leaves, put_leaves}
 use Rattle.st_threads.proofs.Holdings.{nobody_there, AreHeld, view_not_nobody, with_view}
 
@@ -41,7 +42,7 @@ after_back h p t c q u e = ⊎_elim
     (decide q p)
 
 -- no other thread of the worker has its path
-pub apart : (h : Heap) (keeper : Path → Keeper) (w : ℕ) (top : Known) (rest : List Known) (t : Known) → HasThreads h keeper w (top ∷ rest) → Contains rest t → t.path ≢ top.path
+pub apart : (h : Heap) (keeper : Path → Holder) (w : ℕ) (top : Known) (rest : List Known) (t : Known) → HasThreads h keeper w (top ∷ rest) → Contains rest t → t.path ≢ top.path
 apart h keeper w top rest t has m e =
     let a = known_here rest t m in
     let b = has.once t.path in
@@ -73,7 +74,7 @@ module _ (program : Program) (source : Data) (h : Heap) (slot : Slot → Option 
   numbered = numbered_after program source h top.path h' r.numbered step
 
   -- what others keep is there
-  there : (k : Keeper) → k ≢ InView w → (q : Path) (t : Thread) → r.keeper q ≡ k → h.thread q ≡ Some t → h'.thread q ≡ Some t
+  there : (k : Holder) → k ≢ InView w → (q : Path) (t : Thread) → r.keeper q ≡ k → h.thread q ≡ Some t → h'.thread q ≡ Some t
   there k ne q t e here = other_stays program source h h' q top.path t r.numbered here (λ (s : q ≡ top.path). ne (sym e ∙ (ap r.keeper s ∙ kept))) step
 
   rest_of : (t : Known) → Contains rest t → IsOf h' t
@@ -91,7 +92,7 @@ module _ (program : Program) (source : Data) (h : Heap) (slot : Slot → Option 
       (contains_case t (went top c.own) rest m)
 
   -- each thread is held: the own one, the child, and what was there
-  held_by : (keeper : Path → Keeper) → (IsLive c.own.standing → keeper top.path ≢ Nobody) → ((u : Thread) → c.child ≡ Some u → keeper (child_path top) ≢ Nobody) → ((q : Path) (u : Thread) → h.thread q ≡ Some u → IsLive u.standing → q ≢ top.path → keeper q ≢ Nobody) → AreHeld h' keeper
+  held_by : (keeper : Path → Holder) → (IsLive c.own.standing → keeper top.path ≢ Nobody) → ((u : Thread) → c.child ≡ Some u → keeper (child_path top) ≢ Nobody) → ((q : Path) (u : Thread) → h.thread q ≡ Some u → IsLive u.standing → q ≢ top.path → keeper q ≢ Nobody) → AreHeld h' keeper
   held_by keeper own child old p t e live none = ⊎_elim
       (λ (a : (p ≡ top.path) × (c.own ≡ t)). own (subst (λ (x : Thread). IsLive x.standing) (sym a.1) live) (ap keeper (sym a.0) ∙ none))
       (λ more. ⊎_elim

@@ -14,7 +14,8 @@ use Rattle.st_model.specs.Heap.{Path, Heap, put as put_path}
 use Rattle.st_laws.proofs.HeapSteps.{decide, put_same, put_other}
 use Rattle.st_made.specs.Runs.{known_of, all_known, paths_of}
 use Rattle.st_world.specs.Functions.{put}
-use Rattle.st_threads.specs.Holding.{InView, InSlot, IsOf, HasThreads, HasThreadOf, SlotHas, Holding}
+use Rattle.st_world.specs.Holders.{InView, InSlot}
+use Rattle.st_threads.specs.Holding.{IsOf, HasThreads, HasThreadOf, SlotHas, Holding}
 use Rattle.st_threads.specs.Laws.{AreSingle}
 use Rattle.st_threads.proofs.Keepers.{once_more, once_less, kept_by, stay_leaves, put_leaves}
 use Rattle.st_threads.proofs.Lists.{times_both, times_moved, times_first, known_in, left_back}

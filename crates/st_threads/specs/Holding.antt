@@ -12,18 +12,10 @@ use Rattle.st_model.specs.Heap.{Path, Heap, IsNumbered, steps_of}
 use Rattle.st_made.specs.Items.{IsLive}
 use Rattle.st_made.specs.Runs.{all_known, paths_of}
 use Rattle.st_world.specs.World.{World, slot_of, cargo_of}
-
--- who holds a thread
-pub data Keeper : Type 0 where
-  -- a worker, on its stack or in its turn
-  InView : ℕ → Keeper
-  -- the chain in a slot
-  InSlot : Slot → Keeper
-  -- it isn't there, or has ended
-  Nobody : Keeper
+use Rattle.st_world.specs.Holders.{Holder, InView, InSlot, Nobody}
 
 -- how often the worker has it
-abbrev pub times : Keeper → ℕ → ℕ
+abbrev pub times : Holder → ℕ → ℕ
 times (InView v) w = if v == w then 1 else 0
 times (InSlot z) w = 0
 times Nobody w = 0
@@ -37,22 +29,22 @@ pub record IsOf (h : Heap) (t : Known) : Type 0 where
   pub bytes : t.note.bytes ≡ t.thread.bytes
 
 -- all threads of a worker, those of the chains in its turn among them
-pub record HasThreads (h : Heap) (keeper : Path → Keeper) (w : ℕ) (ts : List Known) : Type 0 where
+pub record HasThreads (h : Heap) (keeper : Path → Holder) (w : ℕ) (ts : List Known) : Type 0 where
   pub once : (p : Path) → steps_of p (paths_of ts) ≡ times (keeper p) w
   pub each : (t : Known) → Contains ts t → IsOf h t
 
 -- the thread of the chain in a slot
-pub record HasThreadOf (h : Heap) (keeper : Path → Keeper) (z : Slot) (t : Known) : Type 0 where
+pub record HasThreadOf (h : Heap) (keeper : Path → Holder) (z : Slot) (t : Known) : Type 0 where
   pub of : IsOf h t
   pub holds : keeper t.path ≡ InSlot z
   pub alone : (p : Path) → keeper p ≡ InSlot z → p ≡ t.path
 
-abbrev pub SlotHas : Heap → (Path → Keeper) → Slot → Option Chain → Cargo → Type 0
+abbrev pub SlotHas : Heap → (Path → Holder) → Slot → Option Chain → Cargo → Type 0
 SlotHas h keeper z None cargo = (p : Path) → keeper p ≢ InSlot z
 SlotHas h keeper z (Some chain) cargo = HasThreadOf h keeper z cargo.carried.known
 
 pub record Holding (h : Heap) (slot : Slot → Option Chain) (cargo : Slot → Cargo) (view : ℕ → View) : Type 0 where
-  pub keeper : Path → Keeper
+  pub keeper : Path → Holder
   pub views : (w : ℕ) → HasThreads h keeper w (all_known (view w))
   pub slots : (z : Slot) → SlotHas h keeper z (slot z) (cargo z)
   pub held : (p : Path) (t : Thread) → h.thread p ≡ Some t → IsLive t.standing → keeper p ≢ Nobody
