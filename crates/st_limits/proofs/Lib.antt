@@ -1,1 +1,12 @@
-
+pub mod Paths
+pub mod Holders
+pub mod ViewsAfter
+pub mod Turns
+pub mod Parts
+pub mod Changes
+pub mod Stops
+pub mod Items
+pub mod Chains
+pub mod Steps
+pub mod Moves
+pub mod Firsts

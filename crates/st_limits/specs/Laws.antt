@@ -15,7 +15,7 @@ use Rattle.st_model.specs.Ordinary.{start}
 use Rattle.st_model.specs.Heap.{Heap, IsNumbered, new_thread, first_heap}
 use Rattle.st_made.specs.Items.{MeansItems}
 use Rattle.st_made.specs.Runs.{HasSeen}
-use Rattle.st_world.specs.World.{World, slot_of, seen, Finds, world_after}
+use Rattle.st_world.specs.World.{World, seen, Finds, world_after}
 use Rattle.st_world.specs.OfPlain.{world_of}
 use Rattle.st_threads.specs.Behind.{StepBehind, MoveBehind}
 use Rattle.st_threads.specs.Holding.{Threads}

@@ -1,7 +1,7 @@
 -- Limits. Read Met (when a worker may say that it met a limit), StopMeans (what a stop code tells of the heap-frame machine: some run of it passes that limit), and Limiting, which is
 -- of a run and a world: the items that workers have begun, the bytes of the frames that they have made and the numbers that they have drawn are those of the run, with the
 -- items that are begun at its end and the draws that wait there.
-use Rattle.std.specs.Prelude.{◌≡◌, ◌≢◌, ◌⊎◌, ℕ, ◌+◌, ◌≤◌, ◌<◌, true, List, [], length, Option, Some, None}
+use Rattle.std.specs.Prelude.{◌≡◌, ◌≢◌, ◌⊎◌, ℕ, ◌+◌, ◌≤◌, ◌<◌, true, List, [], ◌∷◌, length, Option, Some, None}
 use Rattle.std.specs.List.{Contains}
 use Rattle.st_base.specs.declared.chain.Chain.{Chain}
 use Rattle.st_base.specs.declared.limits.Limits.{Limits}
@@ -62,11 +62,16 @@ module _ (program : Program) (source : Data) where
 
   -- ---- numbers
 
+  -- one number at a time is drawn, and none while a child is named
+  abbrev pub IsOnePending : View → Type 0
+  IsOnePending v = (v.drawn ≡ []) ⊎ ((c : ℕ) × (v.drawn ≡ c ∷ []) × (v.child ≡ None))
+
   pub record HasNumbers (items frames : ℕ) (v : View) : Type 0 where
     pub items_within : v.items ≤ items
     pub bytes_within : v.frame_bytes ≤ frames
     -- a number is drawn, and a child named, for the next item of the top thread
     pub pending : HasPending v → TopIs v.threads (IsDrawing program source)
+    pub one : IsOnePending v
 
   pub record Limiting (limits : Limits) (h0 h : Heap) (workers cells drawn stop : ℕ) (slot : Slot → Option Chain) (cargo : Slot → Cargo) (view : ℕ → View) : Type 0 where
     pub steps : List Path
