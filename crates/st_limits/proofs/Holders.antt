@@ -12,16 +12,17 @@ use Rattle.st_words.proofs.Lists.{contains_here, contains_case}
 use Rattle.st_model.specs.Heap.{Heap, steps_of}
 use Rattle.st_made.specs.Runs.{all_known, known_of, paths_of}
 use Rattle.st_made.proofs.Lists.{times_here, known_here}
-use Rattle.st_threads.specs.Holding.{Keeper, InView, InSlot, Nobody, times, IsOf, SlotHas, HasThreadOf, Holding}
+use Rattle.st_world.specs.Holders.{Holder, InView, InSlot, Nobody}
+use Rattle.st_threads.specs.Holding.{times, IsOf, SlotHas, HasThreadOf, Holding}
 
-times_some : (k : Keeper) (w : ℕ) → 1 ≤ times k w → k ≡ InView w
+times_some : (k : Holder) (w : ℕ) → 1 ≤ times k w → k ≡ InView w
 times_some (InView v) w l = dite (ℕ_discrete v w)
     (λ (e : v ≡ w). ap InView e)
     (λ (n : v ≢ w). let z : times (InView v) w ≡ 0 = ap (λ (b : Bool). cond b 1 0) (ne_eqb v w n) in let no : ⊥ = omega (arith, l, z) in absurd no)
 times_some (InSlot z) w l = let no : ⊥ = omega (arith, l) in absurd no
 times_some Nobody w l = let no : ⊥ = omega (arith, l) in absurd no
 
-times_most : (k : Keeper) (w : ℕ) → times k w ≤ 1
+times_most : (k : Holder) (w : ℕ) → times k w ≤ 1
 times_most (InView v) w = dite (ℕ_discrete v w)
     (λ (e : v ≡ w). let z : times (InView v) w ≡ 1 = ap (λ (b : Bool). cond b 1 0) (eq-eqb v w e) in omega (arith, z))
     (λ (n : v ≢ w). let z : times (InView v) w ≡ 0 = ap (λ (b : Bool). cond b 1 0) (ne_eqb v w n) in omega (arith, z))
