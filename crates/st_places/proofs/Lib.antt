@@ -1,1 +1,21 @@
-
+pub mod MovedLists
+pub mod Seats
+pub mod Slots
+pub mod Told
+pub mod Rested
+pub mod MovedPlaces
+pub mod MovedChanges
+pub mod Moved
+pub mod Firsts
+pub mod ChangedChains
+pub mod ChangedViews
+pub mod Changed
+pub mod ChangedCalm
+pub mod ChangedStates
+pub mod ChangedWords
+pub mod ChangedStands
+pub mod ChangedOwners
+pub mod ChangedSlots
+pub mod ChangedTakes
+pub mod ChangedPuts
+pub mod Kept

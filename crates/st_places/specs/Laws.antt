@@ -1,23 +1,20 @@
 -- The laws of where threads are, over worlds with their lists. Read Kept (each careful step keeps it, whatever is answered, where the numbers go as they do), MoveLaws
 -- (so does what a worker does between steps), SlotLaws (what is in a slot that a worker may use), ToldLaws (what follows for the answers of
 -- steps and for each view), RestLaws (where a thread is when no worker has any) and First.
-use Rattle.std.specs.Prelude.{◌≡◌, ◌≢◌, ◌⊎◌, ℕ, ◌/◌, ◌<◌, false, List, [], ◌∷◌, Option, Some, None}
+use Rattle.std.specs.Prelude.{◌≡◌, ◌≢◌, ◌⊎◌, ℕ, ◌/◌, ◌<◌, false, List, [], ◌∷◌, Some, None}
 use Rattle.std.specs.List.{Contains}
 use Rattle.st_base.specs.declared.chain.Chain.{Chain}
 use Rattle.st_base.specs.declared.chain.Frame.{Frame}
 use Rattle.st_base.specs.declared.chain.Waiting.{Waiting}
 use Rattle.st_base.specs.declared.limits.Limits.{Limits}
 use Rattle.st_base.specs.declared.thread.Thread.{Thread}
-use Rattle.st_words.specs.declared.view.CellWord.TheVariants.{Standing}
 use Rattle.st_words.specs.declared.view.Slot.{Slot}
-use Rattle.st_words.specs.declared.view.Slot.TheVariants.{Cell, Mail}
+use Rattle.st_words.specs.declared.view.Slot.TheVariants.{Cell}
 use Rattle.st_words.specs.declared.view.Known.{Known}
 use Rattle.st_words.specs.declared.view.Carried.{Carried}
-use Rattle.st_words.specs.declared.view.Cargo.{Cargo}
-use Rattle.st_words.specs.declared.view.Child.{Child}
 use Rattle.st_words.specs.declared.view.View.{View}
 use Rattle.st_words.specs.Encodings.{full_word, running, waits_word, trapped}
-use Rattle.st_words.specs.Steps.{Step, SlotTake, SlotPut, Answer, Took, Can, MayTake, MayPut, HasThread, HasChain, HasInHand, IsChild, IsWaiting}
+use Rattle.st_words.specs.Steps.{Step, Answer, Can, MayTake, HasThread, HasChain, HasInHand, IsChild, IsWaiting}
 use Rattle.st_words.specs.Views.{Progress, with_progress, Does, no_cargo}
 use Rattle.st_words.specs.Plain.{first_words, first_cargoes, first_views}
 use Rattle.st_words.specs.Promises.{IsCargoOf, IsInItsCell, IsActive, IsByHand, StandsActive, IsGoingOn, ShowsOver}
@@ -25,8 +22,8 @@ use Rattle.st_words.specs.Careful.{Meaning, Careful, IsAtHome}
 use Rattle.st_words.specs.Moves.{suspending, giving, restarting, beginning, exporting, MaySuspend, MayGive, MayRestart, MayBegin}
 use Rattle.st_world.specs.World.{World, slot_of, cargo_of, seen, Finds, world_after}
 use Rattle.st_world.specs.OfPlain.{world_of}
-use Rattle.st_lists.specs.Listing.{Nowhere, Listed, Rooted, Lists, counters, IsOpen}
-use Rattle.st_lists.specs.Going.{Goes, Stays, IsQueued}
+use Rattle.st_lists.specs.Listing.{Nowhere, Listed, Rooted, Lists, counters}
+use Rattle.st_lists.specs.Going.{Goes, Stays}
 use Rattle.st_places.specs.Placing.{Gone, Home, Places, cells_of}
 use Rattle.st_places.specs.Steps.{IsKnown, ThreadsGo}
 

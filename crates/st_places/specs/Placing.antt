@@ -1,6 +1,6 @@
 -- Where each thread is. Read Place, Placing (slots, turns, stacks, named children and the words Standing and Trap are as the place of each cell tells), and
 -- Places, which is of a world with its lists. No clause is about two views: a place names the one worker that has the thread.
-use Rattle.std.specs.Prelude.{◌≡◌, ◌≢◌, ◌⊎◌, ℕ, ◌≤◌, ◌<◌, Bool, true, false, List, [], ◌∷◌, map, Option, Some, None}
+use Rattle.std.specs.Prelude.{◌≡◌, ◌≢◌, ℕ, ◌≤◌, ◌<◌, Bool, true, false, List, [], ◌∷◌, map, Option, Some, None}
 use Rattle.std.specs.List.{Contains}
 use Rattle.st_base.specs.declared.chain.Chain.{Chain}
 use Rattle.st_base.specs.declared.chain.Waiting.{Waiting}

@@ -16,7 +16,7 @@ use Rattle.st_lists.specs.Listing.{counters}
 use Rattle.st_places.specs.Placing.{IsOver, cells_of}
 
 -- a cell that is named was not; what the view has seen to be over is over, where a waiter becomes ready; a State word that is changed is of the kind that
--- the worker takes it for; a mail slot is empty where a chain is put
+-- the worker takes it for; a mail slot is there, and empty, where a chain is put
 abbrev pub IsKnown : World → View → Step → Type 0
 IsKnown x u (CellStore c Owner n) = (x.owner c ≡ 0) × (x.state c ≡ 0)
 IsKnown x u (CellStore c Standing n) = n ≡ ready → (k : Waiting) → HasSeenOver u k → IsOver (counters x.owner) x.state k
