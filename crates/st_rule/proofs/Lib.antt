@@ -6,3 +6,4 @@ pub mod Kept
 pub mod Moves
 pub mod Told
 pub mod Tidy
+pub mod Opened
