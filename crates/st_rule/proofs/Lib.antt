@@ -7,3 +7,4 @@ pub mod Moves
 pub mod Told
 pub mod Tidy
 pub mod Opened
+pub mod Filled
