@@ -1,1 +1,12 @@
-
+pub mod Heaps
+pub mod Known
+pub mod Told
+pub mod ViewsAfter
+pub mod Keeping
+pub mod Moves
+pub mod Follows
+pub mod Firsts
+pub mod Cells
+pub mod Words
+pub mod Slots
+pub mod Steps

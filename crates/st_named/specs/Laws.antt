@@ -31,11 +31,11 @@ use Rattle.st_threads.specs.Behind.{StepBehind, MoveBehind}
 use Rattle.st_threads.specs.Holding.{Threads}
 use Rattle.st_named.specs.Naming.{Named, ShowsFuture}
 
--- what others know: a cell that is named was not; a State word is changed of a cell of the kind that the worker takes it for, and numbers in the hand are small, so
--- that they fit into a word beside a count
+-- what others know: a cell that is named was not, and is one of the board's; a State word that is changed is of a named cell of the kind that the worker takes it for,
+-- and numbers in the hand are small, so that they fit into a word beside a count
 abbrev pub IsKnown : World → View → Step → Type 0
-IsKnown x u (CellStore c Owner n) = x.owner c ≡ 0
-IsKnown x u (CellChange c old new) = KnowsKind (x.owner c) u c × ((y : Waiter) → Contains u.hand y → y.cell < 65536)
+IsKnown x u (CellStore c Owner n) = (x.owner c ≡ 0) × (c < x.cells)
+IsKnown x u (CellChange c old new) = (x.owner c ≢ 0) × KnowsKind (x.owner c) u c × ((y : Waiter) → Contains u.hand y → y.cell < 65536)
 IsKnown x u s = Prim.Unit
 
 abbrev pub Kept : Meaning → Type 0

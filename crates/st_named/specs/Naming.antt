@@ -86,6 +86,8 @@ pub record Naming (program : Program) (source : Data) (h : Heap) (cells : ℕ) (
   pub below : (c : ℕ) (n : Held) → name c ≡ Some n → c < cells
   pub threads : (p : Path) → IsThread h p → name (cell (Future p)) ≡ Some (Future p)
   pub counters : (p : Path) (k : ℕ) → IsMade h p k → name (cell (Counter p k)) ≡ Some (Counter p k)
+  -- a counter that isn't made has no count
+  pub counts : (p : Path) (k : ℕ) → h.count p k ≢ 0 → IsMade h p k
   -- the cell of a thread that isn't there yet is named for the next child of some worker's top thread
   pub children : (c : ℕ) (p : Path) → name c ≡ Some (Future p) → IsThread h p ⊎ ((w : ℕ) × (x : Child) × ((view w).child ≡ Some x) × (x.cell ≡ c))
   pub views : (w : ℕ) → ViewNames program source h name cell value (view w)
