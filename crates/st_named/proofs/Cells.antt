@@ -1,5 +1,5 @@
 -- A cell is named, for a counter or for the next child of the top thread: named_counter and named_child, both by new_name.
-use Rattle.std.proofs.Common.{◌≡◌, ◌≢◌, ◌⊎◌, inl, inr, ⊎_elim, ℕ, ◌+◌, ◌≤◌, ◌<◌, Bool, true, false, cond, ◌==◌, List, [], ◌∷◌, ◌++◌, Option, Some, None, refl, sym, ap, ◌∙◌, subst, arith, eq-eqb}
+use Rattle.std.proofs.Common.{◌≡◌, ◌≢◌, ◌⊎◌, inl, inr, ⊎_elim, ℕ, ◌<◌, Bool, true, false, cond, ◌==◌, List, [], ◌∷◌, ◌++◌, Option, Some, None, refl, sym, ap, ◌∙◌, subst, arith, eq-eqb}
 use Rattle.std.specs.Prelude.{◌&&◌}
 use Rattle.std.specs.List.{Contains}
 use Rattle.std.specs.Str.{bytes_eq}
@@ -11,15 +11,14 @@ use Rattle.st_base.specs.declared.thread.Held.{Held}
 use Rattle.st_base.specs.declared.thread.Held.TheVariants.{Number, Future, Counter}
 use Rattle.st_base.specs.declared.thread.Thread.{Thread}
 use Rattle.st_words.specs.declared.view.Known.{Known}
-use Rattle.st_words.specs.declared.view.Child.{Child}
 use Rattle.st_words.specs.declared.view.View.{View}
-use Rattle.st_words.specs.Encodings.{thread_owner, counter_owner, count_in, full_word}
+use Rattle.st_words.specs.Encodings.{thread_owner, counter_owner, count_in}
 use Rattle.st_words.specs.Names.{IsName}
 use Rattle.st_words.specs.Careful.{TopIs}
 use Rattle.st_words.proofs.Lists.{contains_here}
 use Rattle.st_model.specs.declared.program.Program.{Program}
 use Rattle.st_model.specs.Memory.{Data}
-use Rattle.st_model.specs.Heap.{Path, Heap, Change, Moves, HasEnded, Enabled}
+use Rattle.st_model.specs.Heap.{Path, Heap, Change, Moves, Enabled}
 use Rattle.st_laws.specs.Names.{IsThread, IsMade}
 use Rattle.st_laws.proofs.HeapSteps.{eq_same, same_thread}
 use Rattle.st_laws.proofs.Placing.{same_counter}
@@ -35,7 +34,7 @@ use Rattle.st_threads.specs.Holding.{IsOf, Threads}
 use Rattle.st_threads.proofs.Holdings.{told_laws as threads_told}
 use Rattle.st_named.specs.Naming.{OwnerOf, ShowsName, CellHolds, ViewNames, Named}
 use Rattle.st_named.proofs.Heaps.{Grows, NameStays, grows_same, grows_after, own_after, threads_back, made_back, count_case, stays_same, stays_of, shows_on}
-use Rattle.st_named.proofs.Told.{Tells, Extends, PartsOf, child_cell, child_of, told_cons, told_extends, told_here, told_more, told_rest, told_went, parts_on, top_map, view_parts, parts_view}
+use Rattle.st_named.proofs.Told.{Tells, Extends, PartsOf, child_cell, child_of, told_cons, told_extends, told_here, told_more, told_rest, told_went, parts_on, parts_view}
 use Rattle.st_named.proofs.Keeping.{named_of, slot_on, children_on, parts, parts_at, none_coming, top_of}
 
 -- ---- names
@@ -200,7 +199,7 @@ module _ (program : Program) (source : Data) (h : Heap) (x : World) (N : Named p
         let missing : IsMade h top.path k → ⊥ = λ m. let e = ap (λ (t : Thread). t.counters) (same_thread h top.path top.thread m.0 K.there m.1.0) in let l = m.1.1 in omega (arith, e, l) in
         let none : h.count top.path k ≡ 0 = dite (ℕ_discrete (h.count top.path k) 0) (λ z. z) (λ (ne : h.count top.path k ≢ 0). absurd (missing (N.counts top.path k ne))) in
         let added : (q : Path) (i : ℕ) → change.added ≡ Some (q, i) → ⊥ = λ q i e. let z = sort.added in let no : ⊥ = cc in no in
-        let same : (q : Path) (i : ℕ) → g.count q i ≡ h.count q i = λ q i. elim (count_case change.added h.count q i) [ | inl e ↦ absurd (added q i e) | inr e ↦ e ] in
+        let same : (q : Path) (i : ℕ) → g.count q i ≡ h.count q i = λ q i. elim (count_case change.added h.count q i) [ inl e ↦ absurd (added q i e) | inr e ↦ e ] in
         let grown = sort.counters in
         let free' = unnamed c free in
         new_name program source h x N w c n new g v (record {
@@ -212,7 +211,7 @@ module _ (program : Program) (source : Data) (h : Heap) (x : World) (N : Named p
           shows = (ap count_in free'.1 ∙ sym (same top.path k ∙ none), (change.own, (own_after h top.path top.thread change, omega (arith, grown))));
           grows = grows;
           others = λ a ne. stays_of program source h top.path top.thread change a K.there enabled (inl sort.live) (λ q i e. absurd (added q i e));
-          threads = λ p t. elim (threads_back program source h top.path top.thread change K.there enabled p t) [ | inl old ↦ old | inr m ↦ absurd (m.1 sort.child) ];
+          threads = λ p t. elim (threads_back program source h top.path top.thread change K.there enabled p t) [ inl old ↦ old | inr m ↦ absurd (m.1 sort.child) ];
           counters = λ p i m. elim (made_back program source h top.path top.thread change K.there enabled p i m) [
             | inl old ↦ inl old
             | inr m ↦ let a = m.1 in let b = m.2 in let e : k ≡ i = omega (arith, a, b, grown) in inr (λ j. Counter (sym m.0 j) (e j))

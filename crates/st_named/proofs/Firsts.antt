@@ -1,7 +1,6 @@
 -- A board that is opened for the root's thread has the root's cell named, and no other: first_names.
-use Rattle.std.proofs.Common.{◌≡◌, ◌≢◌, ◌⊎◌, inl, inr, ⊎_elim, ℕ, suc, ◌/◌, ◌<◌, ◌≤◌, List, [], ◌∷◌, length, replicate, Option, Some, None, refl, sym, ap, ◌∙◌, subst, arith, slice_set, slice_index_or, get_or-set_same, get_or-set_other}
+use Rattle.std.proofs.Common.{◌≡◌, ◌≢◌, inl, ⊎_elim, ℕ, suc, ◌/◌, ◌<◌, ◌≤◌, [], length, replicate, Option, Some, None, refl, sym, ap, ◌∙◌, subst, arith, slice_set, slice_index_or, get_or-set_same, get_or-set_other}
 use Rattle.std.specs.Prelude.{slice_get}
-use Rattle.std.specs.List.{Contains}
 use Rattle.std.proofs.lemmas.List.{length-replicate, get_or-replicate, get_or_past}
 use Rattle.std.proofs.Math.Decide.{dec_le}
 use mathlib.Core.Logic.{dite}
@@ -9,7 +8,7 @@ use native.Mathlib.Decide.{ℕ_discrete}
 use Rattle.st_base.specs.declared.limits.Limits.{Limits}
 use Rattle.st_base.specs.declared.thread.Held.{Held}
 use Rattle.st_base.specs.declared.thread.Held.TheVariants.{Number, Future}
-use Rattle.st_base.specs.declared.thread.Standing.TheVariants.{Going, Ended}
+use Rattle.st_base.specs.declared.thread.Standing.TheVariants.{Ended}
 use Rattle.st_base.specs.declared.thread.Thread.{Thread}
 use Rattle.st_base.specs.declared.registers.Pick.TheVariants.{Arguments}
 use Rattle.st_base.specs.declared.reg.Reg.TheVariants.{A0}
@@ -36,7 +35,7 @@ use Rattle.st_world.specs.Functions.{put}
 use Rattle.st_world.specs.OfPlain.{reading, reading_slot, reading_cargo, world_of}
 use Rattle.st_world.specs.World.{slot_of, cargo_of}
 use Rattle.st_world.proofs.Functions.{put_case, put_all}
-use Rattle.st_named.specs.Naming.{CellHolds, ViewNames, SlotNames, Naming, Named}
+use Rattle.st_named.specs.Naming.{CellHolds, ViewNames, SlotNames, Named}
 use Rattle.st_named.specs.Laws.{First}
 use Rattle.st_named.proofs.Known.{KnowsAll, ThreadKnows, knows_of}
 use Rattle.st_named.proofs.Told.{Parts, parts_view}

@@ -1,15 +1,13 @@
 -- What follows from the names: told_laws.
-use Rattle.std.proofs.Common.{◌≡◌, ◌⊎◌, inl, inr, ℕ, ◌≤◌, List, [], ◌∷◌, Option, Some, None, sym, ap, ◌∙◌, subst}
-use Rattle.std.specs.List.{Contains}
+use Rattle.std.proofs.Common.{◌≡◌, inl, inr, ℕ, ◌≤◌, Some, sym, ◌∙◌, subst}
 use Rattle.st_base.specs.declared.chain.Chain.{Chain}
 use Rattle.st_base.specs.declared.thread.Held.{Held}
 use Rattle.st_base.specs.declared.thread.Held.TheVariants.{Number, Future, Counter}
 use Rattle.st_words.specs.declared.view.Slot.{Slot}
-use Rattle.st_words.specs.Encodings.{count_in}
 use Rattle.st_words.specs.Promises.{IsOwnerOf}
 use Rattle.st_model.specs.declared.program.Program.{Program}
 use Rattle.st_model.specs.Memory.{Data}
-use Rattle.st_model.specs.Heap.{Path, Heap, HasEnded}
+use Rattle.st_model.specs.Heap.{Heap, HasEnded}
 use Rattle.st_world.specs.World.{World, slot_of, cargo_of}
 use Rattle.st_named.specs.Naming.{OwnerOf, SlotNames, CargoNames, Named}
 use Rattle.st_named.specs.Laws.{Told}

@@ -1,17 +1,17 @@
 -- What an item of one thread leaves of a heap: Grows (what is there stays, with grows_after), and what is there after it was there before: threads_back,
 -- made_back and ended_back. shows_on: a cell whose thread or counter the item leaves alone shows it still.
-use Rattle.std.proofs.Common.{◌≡◌, ◌≢◌, ◌⊎◌, inl, inr, ⊎_elim, ℕ, ◌+◌, ◌≤◌, ◌<◌, Bool, true, false, cond, ◌==◌, List, [], ◌∷◌, ◌++◌, Option, Some, None, refl, sym, ap, ◌∙◌, subst, arith, eq-eqb}
+use Rattle.std.proofs.Common.{◌≡◌, ◌≢◌, ◌⊎◌, inl, inr, ⊎_elim, ℕ, ◌≤◌, ◌<◌, Bool, true, false, cond, ◌==◌, [], ◌∷◌, ◌++◌, Option, Some, None, refl, sym, ap, ◌∙◌, subst, arith, eq-eqb}
 use Rattle.std.specs.Prelude.{◌&&◌}
 use Rattle.std.specs.Str.{bytes_eq}
 use Rattle.st_base.specs.declared.thread.Held.{Held}
 use Rattle.st_base.specs.declared.thread.Held.TheVariants.{Number, Future, Counter}
 use Rattle.st_base.specs.declared.thread.Standing.{Standing}
-use Rattle.st_base.specs.declared.thread.Standing.TheVariants.{Going, Ended}
+use Rattle.st_base.specs.declared.thread.Standing.TheVariants.{Ended}
 use Rattle.st_base.specs.declared.thread.Thread.{Thread}
 use Rattle.st_model.specs.declared.program.Program.{Program}
 use Rattle.st_model.specs.Memory.{Data}
 use Rattle.st_model.specs.Ordinary.{counted}
-use Rattle.st_model.specs.Heap.{Path, Heap, Change, Move, Stays, Moves, Touch, Join, move, HasEnded, Enabled, put_child, count_up, after, HStep, IsNumbered}
+use Rattle.st_model.specs.Heap.{Path, Heap, Change, Move, Moves, move, HasEnded, Enabled, put_child, count_up, after, HStep, IsNumbered}
 use Rattle.st_model.specs.Limits.{cells_drawn}
 use Rattle.st_laws.specs.Names.{IsThread, IsMade}
 use Rattle.st_laws.specs.Changes.{IsNew, ItemChange}
@@ -21,7 +21,7 @@ use Rattle.st_laws.proofs.Later.{step_forks}
 use Rattle.st_laws.proofs.Placing.{OfChild, each_after, le_or_less, same_counter}
 use Rattle.st_laws.proofs.Staying.{ended_stays, other_stays}
 use Rattle.st_made.specs.Items.{IsLive, ending}
-use Rattle.st_named.specs.Naming.{ShowsFuture, ShowsName, WillEnd}
+use Rattle.st_named.specs.Naming.{ShowsName, WillEnd}
 
 -- ---- what is there stays
 
@@ -128,10 +128,10 @@ NameStays h h' (Counter p i) = h'.count p i ≡ h.count p i
 pub stays_of : (program : Program) (source : Data) (h : Heap) (p : Path) (t : Thread) (c : Change) (n : Held) → h.thread p ≡ Some t → Enabled h (move program source p t) c → IsLive c.own.standing ⊎ (n ≢ Future p) → ((q : Path) (i : ℕ) → c.added ≡ Some (q, i) → n ≢ Counter q i) → NameStays h (after h p t c) n
 stays_of program source h p t c (Number k) here enabled live other = tt
 stays_of program source h p t c (Future q) here enabled live other = λ n e. elim (ended_back program source h p t c here enabled q n e) [
-    | inl old ↦ old
-    | inr now ↦ elim live [ | inl l ↦ absurd (not_live c.own.standing n now.1 l) | inr ne ↦ absurd (ne (ap Future now.0)) ]
-  ]
-stays_of program source h p t c (Counter q i) here enabled live other = elim (count_case c.added h.count q i) [ | inl e ↦ absurd (other q i e refl) | inr e ↦ e ]
+  | inl old ↦ old
+  | inr now ↦ elim live [ inl l ↦ absurd (not_live c.own.standing n now.1 l) | inr ne ↦ absurd (ne (ap Future now.0)) ]
+]
+stays_of program source h p t c (Counter q i) here enabled live other = elim (count_case c.added h.count q i) [ inl e ↦ absurd (other q i e refl) | inr e ↦ e ]
 
 pub stays_same : (h : Heap) (n : Held) → NameStays h h n
 stays_same h (Number k) = tt

@@ -1,6 +1,6 @@
 -- What is kept where no cell is named: kept, by what is so then (Next). heap_same and heap_goes: of the heap, by an item that makes no counter. Parts of a view: parts_same (nothing
 -- that is read changes) and goes_view (the top thread after an item).
-use Rattle.std.proofs.Common.{◌≡◌, ◌≢◌, ◌⊎◌, inl, inr, ⊎_elim, ℕ, ◌≤◌, ◌<◌, List, [], ◌∷◌, ◌++◌, Option, Some, None, refl, sym, ap, ◌∙◌, subst, arith}
+use Rattle.std.proofs.Common.{◌≡◌, ◌≢◌, ◌⊎◌, inl, inr, ℕ, List, ◌∷◌, ◌++◌, Option, Some, None, refl, sym, ap, ◌∙◌, subst, arith}
 use Rattle.std.specs.List.{Contains}
 use mathlib.Core.Logic.{dite}
 use native.Mathlib.Decide.{ℕ_discrete}
@@ -16,7 +16,7 @@ use Rattle.st_words.specs.Careful.{TopIs}
 use Rattle.st_words.proofs.Lists.{contains_here}
 use Rattle.st_model.specs.declared.program.Program.{Program}
 use Rattle.st_model.specs.Memory.{Data}
-use Rattle.st_model.specs.Heap.{Path, Heap, Change, Moves, Enabled, IsNumbered}
+use Rattle.st_model.specs.Heap.{Path, Heap, Change, Enabled, IsNumbered}
 use Rattle.st_laws.specs.Names.{IsThread, IsMade}
 use Rattle.st_made.specs.Items.{went, child_path, next_move, IsAtFork}
 use Rattle.st_made.specs.Runs.{known_of}
@@ -62,14 +62,14 @@ module _ (program : Program) (source : Data) (h : Heap) (x : World) (N : Named p
   -- each named cell of a thread that isn't there is of a next child still
   pub children_on : (h' : Heap) (v : View) → Grows program source h h' → ((c : ℕ) → child_cell (x.view w).child ≡ Some c → (child_cell v.child ≡ Some c) ⊎ ((p : Path) → N.name c ≡ Some (Future p) → IsThread h' p)) → (c : ℕ) (p : Path) → N.name c ≡ Some (Future p) → IsThread h' p ⊎ ((q : ℕ) × (y : Child) × ((put x.view w v q).child ≡ Some y) × (y.cell ≡ c))
   children_on h' v grows coming c p e = elim (N.children c p e) [
-      | inl there ↦ inl (grows.there p there)
-      | inr y ↦ dite (ℕ_discrete y.0 w)
-          (λ (s : y.0 ≡ w). elim (coming y.1.cell (ap child_cell (subst (λ q. (x.view q).child ≡ Some y.1) s y.2))) [
-            | inl still ↦ let z = child_of v.child y.1.cell still in inr (w, z.0, ap (λ (k : View). k.child) (put_here x.view w v) ∙ z.1, z.2 ∙ y.3)
-            | inr there ↦ inl (there p (ap N.name y.3 ∙ e))
-          ])
-          (λ (d : y.0 ≢ w). inr (y.0, y.1, ap (λ (k : View). k.child) (put_other x.view w v y.0 d) ∙ y.2, y.3))
-    ]
+    | inl there ↦ inl (grows.there p there)
+    | inr y ↦ dite (ℕ_discrete y.0 w)
+        (λ (s : y.0 ≡ w). elim (coming y.1.cell (ap child_cell (subst (λ q. (x.view q).child ≡ Some y.1) s y.2))) [
+          | inl still ↦ let z = child_of v.child y.1.cell still in inr (w, z.0, ap (λ (k : View). k.child) (put_here x.view w v) ∙ z.1, z.2 ∙ y.3)
+          | inr there ↦ inl (there p (ap N.name y.3 ∙ e))
+        ])
+        (λ (d : y.0 ≢ w). inr (y.0, y.1, ap (λ (k : View). k.child) (put_other x.view w v y.0 d) ∙ y.2, y.3))
+  ]
 
   module _ (h' : Heap) (state' value' : ℕ → ℕ) (slot' : Slot → Option Chain) (cargo' : Slot → Cargo) (v : View) (X : Next h' state' value' slot' cargo' v) where
     cell_kept : (c : ℕ) (o : Option Held) → N.name c ≡ o → CellHolds program source h N.name N.cell c (x.owner c) (x.state c) (x.value c) o → CellHolds program source h' N.name N.cell c (x.owner c) (state' c) (value' c) o

@@ -1,6 +1,6 @@
 -- The names of a thread after an item are among those before it, beside that of a child or a counter that it makes: own_knows, by one walk over the effects. ThreadKnows says of a
 -- list of names that each name of a thread is there.
-use Rattle.std.proofs.Common.{◌≡◌, ◌≢◌, ◌⊎◌, inl, inr, ⊎_elim, ℕ, ◌+◌, Bool, true, false, List, [], ◌∷◌, ◌++◌, Option, Some, None, refl, sym, subst, arith}
+use Rattle.std.proofs.Common.{◌≡◌, ◌≢◌, inl, inr, ⊎_elim, ℕ, Bool, true, false, List, [], ◌∷◌, ◌++◌, Option, Some, None, refl, subst, arith}
 use Rattle.std.specs.Prelude.{slice_index_or}
 use Rattle.std.specs.List.{Contains}
 use Rattle.st_base.specs.declared.thread.Held.{Held}
@@ -20,7 +20,7 @@ use Rattle.st_model.specs.declared.effect.Effect.{Effect}
 use Rattle.st_model.specs.declared.effect.Effect.TheVariants.{Undefined, Goes, Calls, Returns, Ends, Traps, Prints, Forks, Touches, Counts, Adds, Joins}
 use Rattle.st_model.specs.Memory.{Data}
 use Rattle.st_model.specs.Effect.{item_effect}
-use Rattle.st_model.specs.Ordinary.{item_at, is_root}
+use Rattle.st_model.specs.Ordinary.{item_at}
 use Rattle.st_model.specs.Heap.{Path, Heap, Change, Move, Stays, Moves, Touch, Join, new_thread, move, move_standing, move_of, move_at, effect_move, printed_move, touch_move, add_move, join_move, Enabled}
 use Rattle.st_laws.specs.Names.{IsKnown, IsKnownCell, AreKnown, KnowsNames, AllKnowNames}
 use Rattle.st_laws.proofs.Naming.{known_write, EffectKnows, item_knows}

@@ -1,12 +1,10 @@
 -- What a worker does between its steps keeps the names: moves_keep.
-use Rattle.std.proofs.Common.{◌≡◌, ◌≢◌, inl, inr, ⊎_elim, ℕ, ◌<◌, ◌+◌, true, List, [], ◌∷◌, ◌++◌, not, ◌==◌, Option, Some, None, refl, sym, ap, ◌∙◌, subst, arith}
+use Rattle.std.proofs.Common.{◌≡◌, ◌≢◌, inl, inr, ⊎_elim, ℕ, ◌+◌, true, List, [], ◌∷◌, ◌++◌, Option, Some, None, refl, sym, ap, ◌∙◌, subst, arith}
 use Rattle.std.specs.List.{Contains}
 use Rattle.std.proofs.lemmas.List.{append_assoc}
 use Rattle.std.proofs.lemmas.List.Elements.{Contains-append_left, Contains-append_right, Contains-append_cases}
-use Rattle.st_base.specs.declared.chain.Waiting.{Waiting}
 use Rattle.st_base.specs.declared.thread.Held.{Held}
 use Rattle.st_base.specs.declared.thread.Held.TheVariants.{Future}
-use Rattle.st_base.specs.declared.thread.Thread.{Thread}
 use Rattle.st_words.specs.declared.view.Known.{Known}
 use Rattle.st_words.specs.declared.view.Carried.{Carried}
 use Rattle.st_words.specs.declared.view.View.{View}
@@ -16,10 +14,9 @@ use Rattle.st_words.specs.Moves.{suspending, giving, restarting, beginning, expo
 use Rattle.st_words.proofs.Lists.{contains_here, contains_later, contains_case}
 use Rattle.st_model.specs.declared.program.Program.{Program}
 use Rattle.st_model.specs.Memory.{Data}
-use Rattle.st_model.specs.Heap.{Path, Heap, Change, Enabled, HStep}
+use Rattle.st_model.specs.Heap.{Path, Heap, Enabled, HStep}
 use Rattle.st_model.specs.Limits.{frame_made}
-use Rattle.st_laws.specs.Names.{IsThread}
-use Rattle.st_laws.specs.Changes.{one_if, ItemChange, AfterFork}
+use Rattle.st_laws.specs.Changes.{one_if, AfterFork}
 use Rattle.st_laws.proofs.ItemChanges.{item_changes}
 use Rattle.st_laws.proofs.Forking.{fork_makes}
 use Rattle.st_made.specs.Items.{IsLive, went, born, child_path, next_move, IsAtFork}
@@ -28,14 +25,14 @@ use Rattle.st_made.proofs.MadeRuns.{at_once}
 use Rattle.st_made.proofs.Running.{enough}
 use Rattle.st_world.specs.World.{World, slot_of, cargo_of, seen}
 use Rattle.st_threads.specs.Behind.{heap_on, Makes, Forks, IsStill}
-use Rattle.st_threads.specs.Holding.{IsOf, Threads}
+use Rattle.st_threads.specs.Holding.{Threads}
 use Rattle.st_threads.proofs.Lists.{known_in, left_back}
 use Rattle.st_named.specs.Naming.{Named}
 use Rattle.st_named.specs.Laws.{MovesKept}
 use Rattle.st_named.proofs.Heaps.{stays_same, stays_of}
 use Rattle.st_named.proofs.Known.{child_knows}
-use Rattle.st_named.proofs.Told.{Tells, Covers, Parts, PartsOf, child_cell, told_cons, told_fewer, told_here, told_rest, told_went, parts_on}
-use Rattle.st_named.proofs.Keeping.{kept, calm, parts, named_of, heap_same, heap_goes, top_of, goes_view, none_coming}
+use Rattle.st_named.proofs.Told.{Tells, Covers, PartsOf, child_cell, told_cons, told_fewer, told_here, told_rest, told_went, parts_on}
+use Rattle.st_named.proofs.Keeping.{kept, calm, parts, named_of, heap_same, heap_goes, top_of, goes_view}
 
 -- ---- threads that are the same
 

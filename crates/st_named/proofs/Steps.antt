@@ -1,15 +1,14 @@
 -- Each careful step keeps the names, with the heap after its item: step_kept.
-use Rattle.std.proofs.Common.{◌≡◌, ◌≢◌, inl, inr, ⊎_elim, ℕ, Bool, true, false, List, [], ◌∷◌, Option, Some, None, refl, sym, ap, ◌∙◌, subst, ◌==◌, ◌&&◌}
+use Rattle.std.proofs.Common.{◌≡◌, inl, inr, ℕ, Bool, true, false, Some, refl, sym, ap, ◌∙◌, subst, ◌==◌, ◌&&◌}
 use Rattle.st_base.specs.declared.chain.Chain.{Chain}
-use Rattle.st_base.specs.declared.thread.Held.{Held}
 use Rattle.st_words.specs.declared.view.CellWord.{CellWord}
-use Rattle.st_words.specs.declared.view.CellWord.TheVariants.{Owner, State, Value, Next, Standing, Trap}
+use Rattle.st_words.specs.declared.view.CellWord.TheVariants.{Owner, State, Value, Standing}
 use Rattle.st_words.specs.declared.view.Slot.{Slot}
 use Rattle.st_words.specs.declared.view.Cargo.{Cargo}
 use Rattle.st_words.specs.declared.view.View.{View}
 use Rattle.st_words.specs.Encodings.{is_counter, ready}
-use Rattle.st_words.specs.Steps.{Step, StackStore, Mark, CellStore, CellChange, Draw, ActiveAdd, StopSet, RootTake, RequestChange, MailStore, OutStore, SlotTake, SlotPut, Answer, Done, Number, Took, Can}
-use Rattle.st_words.specs.Views.{Does, view_after, with_progress, with_name, child_named, no_cargo, took, slot_put, in_hand, owner_seen, counts_cell}
+use Rattle.st_words.specs.Steps.{Step, CellStore, CellChange, StopSet, RequestChange, OutStore, SlotTake, SlotPut, Answer, Done, Number, Took, Can}
+use Rattle.st_words.specs.Views.{Does, view_after, with_name, child_named, no_cargo, in_hand, owner_seen, counts_cell}
 use Rattle.st_words.specs.Careful.{Meaning, Careful, Stores}
 use Rattle.st_words.proofs.Lists.{same_true}
 use Rattle.st_words.proofs.Safe.{counter_kind}
@@ -21,7 +20,7 @@ use Rattle.st_made.specs.Runs.{known_of}
 use Rattle.st_made.specs.Events.{PrintsWord}
 use Rattle.st_made.proofs.MadeRuns.{at_once}
 use Rattle.st_world.specs.Functions.{put}
-use Rattle.st_world.specs.World.{World, slot_of, cargo_of, seen, put_if, Finds, changed, world_after}
+use Rattle.st_world.specs.World.{World, slot_of, cargo_of, seen, put_if, Finds, world_after}
 use Rattle.st_threads.specs.Behind.{heap_on, Rests, Goes, change_behind, owner_behind, StepBehind}
 use Rattle.st_threads.specs.Holding.{Threads}
 use Rattle.st_named.specs.Naming.{Named}

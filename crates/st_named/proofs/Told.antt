@@ -1,6 +1,6 @@
 -- What a view and a cargo tell of names, by their parts: Parts, with view_parts and parts_view, and Tells, which is of a list of names and of threads. Reach for told_fewer (fewer
 -- threads), told_cons (one more), told_more (one name more), told_joined (a chain that comes into the turn), told_went (the thread after an item) and parts_on (what others do).
-use Rattle.std.proofs.Common.{◌≡◌, ◌≢◌, inl, inr, ⊎_elim, ℕ, Bool, List, [], ◌∷◌, ◌++◌, Option, Some, None, refl, sym, ap, ◌∙◌, subst}
+use Rattle.std.proofs.Common.{◌≡◌, ◌≢◌, inl, inr, ⊎_elim, ℕ, List, [], ◌∷◌, ◌++◌, Option, Some, None, refl, sym, ap, ◌∙◌, subst}
 use Rattle.std.specs.List.{Contains}
 use Rattle.std.proofs.lemmas.List.Elements.{Contains-append_left, Contains-append_right, Contains-append_cases}
 use Rattle.st_base.specs.declared.thread.Held.{Held}
@@ -18,9 +18,9 @@ use Rattle.st_model.specs.declared.program.Program.{Program}
 use Rattle.st_model.specs.Memory.{Data}
 use Rattle.st_model.specs.Heap.{Path, Heap, Change, Enabled}
 use Rattle.st_made.specs.Items.{went, child_path, next_move, IsAtFork}
-use Rattle.st_made.specs.Runs.{known_of, all_known}
+use Rattle.st_made.specs.Runs.{known_of}
 use Rattle.st_threads.proofs.Lists.{known_case, known_in}
-use Rattle.st_named.specs.Naming.{WillEnd, IsChildOf, ViewNames, CargoNames}
+use Rattle.st_named.specs.Naming.{WillEnd, ViewNames, CargoNames}
 use Rattle.st_named.proofs.Heaps.{Grows}
 use Rattle.st_named.proofs.Known.{ThreadKnows, own_knows}
 

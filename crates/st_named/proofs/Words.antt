@@ -1,5 +1,5 @@
 -- A State word is changed (change_kept) or a Value word stored (value_kept), and an item of the top thread that changes no word (item_kept).
-use Rattle.std.proofs.Common.{◌≡◌, ◌≢◌, ◌⊎◌, inl, inr, ⊎_elim, ℕ, suc, ◌+◌, ◌*◌, ◌^◌, ◌≤◌, ◌<◌, Bool, true, false, cond, List, [], ◌∷◌, ◌++◌, Option, Some, None, refl, sym, ap, ◌∙◌, subst, arith, ◌==◌, eq-eqb}
+use Rattle.std.proofs.Common.{◌≡◌, ◌≢◌, ◌⊎◌, inl, inr, ⊎_elim, ℕ, suc, ◌+◌, ◌^◌, ◌<◌, Bool, true, false, cond, List, ◌∷◌, ◌++◌, Option, Some, None, refl, sym, ap, ◌∙◌, subst, arith, ◌==◌, eq-eqb}
 use Rattle.std.specs.List.{Contains, filter}
 use Rattle.std.proofs.lemmas.Bool.Decides.{leb_tells}
 use mathlib.Core.Logic.{dite}
@@ -9,38 +9,34 @@ use Rattle.st_base.specs.declared.thread.Held.TheVariants.{Number, Future, Count
 use Rattle.st_base.specs.declared.thread.Standing.{Standing}
 use Rattle.st_base.specs.declared.thread.Standing.TheVariants.{Ended}
 use Rattle.st_base.specs.declared.thread.Thread.{Thread}
-use Rattle.st_words.specs.declared.view.CellWord.TheVariants.{Value}
 use Rattle.st_words.specs.declared.view.Known.{Known}
 use Rattle.st_words.specs.declared.view.Waiter.{Waiter}
 use Rattle.st_words.specs.declared.view.View.{View}
 use Rattle.st_words.specs.Encodings.{full_word, count_in, head_in, counter_word, count_after, is_counter}
-use Rattle.st_words.specs.Steps.{CellStore, Done, MayChange}
-use Rattle.st_words.specs.Views.{Does, view_after, other_cell, owner_seen, counts_cell}
-use Rattle.st_words.specs.Careful.{TopIs}
+use Rattle.st_words.specs.Steps.{MayChange}
+use Rattle.st_words.specs.Views.{other_cell, owner_seen, counts_cell}
 use Rattle.st_words.proofs.Lists.{contains_case, filter_out, same_true}
 use Rattle.st_words.proofs.Safe.{thread_kind, counter_kind}
 use Rattle.st_model.specs.declared.program.Program.{Program}
 use Rattle.st_model.specs.Memory.{Data}
 use Rattle.st_model.specs.Ordinary.{counted}
-use Rattle.st_model.specs.Heap.{Path, Heap, Change, Move, Stays, Moves, Touch, Join, HasEnded, Enabled, move, count_up}
+use Rattle.st_model.specs.Heap.{Path, Heap, Move, Moves, HasEnded, Enabled, move, count_up}
 use Rattle.st_laws.specs.Names.{IsMade}
 use Rattle.st_laws.proofs.HeapSteps.{same_thread}
-use Rattle.st_made.specs.Items.{IsLive, went, ending, next_move, EndsWith}
+use Rattle.st_made.specs.Items.{IsLive, ending, next_move, EndsWith}
 use Rattle.st_made.specs.Runs.{known_of}
-use Rattle.st_made.specs.Events.{AddsTo}
 use Rattle.st_made.proofs.MadeRuns.{at_once}
 use Rattle.st_world.specs.Functions.{put}
 use Rattle.st_world.specs.World.{World, slot_of, cargo_of, seen}
 use Rattle.st_world.proofs.Functions.{put_here, put_other}
 use Rattle.st_lists.specs.Laws.{KnowsKind}
-use Rattle.st_threads.specs.Behind.{heap_on, Rests, Ends, Goes, future_behind, counter_behind, state_behind, change_behind}
-use Rattle.st_threads.specs.Holding.{IsOf, Threads}
+use Rattle.st_threads.specs.Behind.{heap_on, Rests, future_behind, counter_behind, state_behind}
+use Rattle.st_threads.specs.Holding.{Threads}
 use Rattle.st_named.specs.Naming.{OwnerOf, ShowsName, WillEnd, CellHolds, Named}
-use Rattle.st_named.proofs.Heaps.{Grows, NameStays, own_after, not_live, count_here, stays_same, stays_of, shows_on}
+use Rattle.st_named.proofs.Heaps.{NameStays, own_after, not_live, count_here, stays_same, stays_of, shows_on}
 use Rattle.st_named.proofs.Told.{Tells, PartsOf, child_cell, told_here, told_rest, parts_on}
 use Rattle.st_named.proofs.ViewsAfter.{SameParts}
-use Rattle.st_named.proofs.Keeping.{HeapOn, kept,  parts, parts_at, parts_same, slots_same, named_of, heap_same, heap_goes, top_of, goes_view, none_coming}
-use Rattle.st_named.proofs.Cells.{top_is}
+use Rattle.st_named.proofs.Keeping.{HeapOn, kept, parts, parts_at, parts_same, slots_same, named_of, heap_same, heap_goes, top_of, goes_view, none_coming}
 
 -- ---- words
 
@@ -85,8 +81,8 @@ module _ (program : Program) (source : Data) (h : Heap) (x : World) (N : Named p
       let own : (d : ℕ) (p : Path) → d ≡ c → N.name d ≡ Some (Future p) → p ≡ top.path = λ d p e f. let g : N.name d ≡ Some (Future top.path) = ap N.name e ∙ name in cc in
       let dead : (m : ℕ) → HasEnded h top.path m → ⊥ = λ m e. not_live top.thread.standing m (ap (λ (t : Thread). t.standing) (same_thread h top.path top.thread e.0 K.there e.1) ∙ e.2) K.live in
       let stays : (d m : ℕ) (p : Path) → N.name d ≡ Some (Future p) → WillEnd program source h p m → x.value d ≡ m → put x.value c n d ≡ m = λ d m p e f z. dite (ℕ_discrete d c)
-          (λ (s : d ≡ c). ap (put x.value c n) s ∙ (put_here x.value c n ∙ sym (one_will program source h top.path top.thread m n K.there K.live ends (subst (λ q. WillEnd program source h q m) (own d p s e) f))))
-          (λ (ne : d ≢ c). put_other x.value c n d ne ∙ z) in
+      (λ (s : d ≡ c). ap (put x.value c n) s ∙ (put_here x.value c n ∙ sym (one_will program source h top.path top.thread m n K.there K.live ends (subst (λ q. WillEnd program source h q m) (own d p s e) f))))
+      (λ (ne : d ≢ c). put_other x.value c n d ne ∙ z) in
       kept program source h x N w h x.state (put x.value c n) (slot_of x) (cargo_of x) v (record {
         heap = heap_same program source h x N w;
         empty = λ d e z. z;
@@ -145,37 +141,37 @@ module _ (program : Program) (source : Data) (h : Heap) (x : World) (N : Named p
 
     not_full : is_counter (x.owner c) ≡ false → old ≢ full_word
     not_full f = elim can [
-        | inl park ↦ park.1
-        | inr (inl fill) ↦ fill.1
-        | inr (inr (inl done)) ↦ let t = kind.1 done.0 in let no : ⊥ = cc in absurd no
-        | inr (inr (inr join)) ↦ let t = kind.1 join.0 in let no : ⊥ = cc in absurd no
-      ]
+      | inl park ↦ park.1
+      | inr (inl fill) ↦ fill.1
+      | inr (inr (inl done)) ↦ let t = kind.1 done.0 in let no : ⊥ = cc in absurd no
+      | inr (inr (inr join)) ↦ let t = kind.1 join.0 in let no : ⊥ = cc in absurd no
+    ]
 
     counts : is_counter (x.owner c) ≡ true → (head_in new ≡ 0 → count_in new ≡ count_after (count_in old)) × (head_in new ≢ 0 → count_in new ≡ count_in old)
     counts t = elim can [
-        | inl park ↦ let f = kind.0 park.0 in let no : ⊥ = cc in absurd no
-        | inr (inl fill) ↦ let f = kind.0 fill.0 in let no : ⊥ = cc in absurd no
-        | inr (inr (inl done)) ↦ let parts = word_parts (count_after (count_in old)) 0 (omega arith) in (λ z. ap count_in done.1 ∙ parts.0, λ ne. absurd (ne (ap head_in done.1 ∙ parts.1)))
-        | inr (inr (inr join)) ↦
-            let y = join.1.2 in
-            let l = small y.0 y.1 in
-            let e = y.2 in
-            let parts = word_parts (count_in old) (join.1.0 + 1) (omega (arith, l, e)) in
-            let head : head_in new ≡ join.1.0 + 1 = ap head_in join.1.5 ∙ parts.1 in
-            (λ z. let no : ⊥ = omega (arith, head, z) in absurd no, λ ne. ap count_in join.1.5 ∙ parts.0)
-      ]
+      | inl park ↦ let f = kind.0 park.0 in let no : ⊥ = cc in absurd no
+      | inr (inl fill) ↦ let f = kind.0 fill.0 in let no : ⊥ = cc in absurd no
+      | inr (inr (inl done)) ↦ let parts = word_parts (count_after (count_in old)) 0 (omega arith) in (λ z. ap count_in done.1 ∙ parts.0, λ ne. absurd (ne (ap head_in done.1 ∙ parts.1)))
+      | inr (inr (inr join)) ↦
+          let y = join.1.2 in
+          let l = small y.0 y.1 in
+          let e = y.2 in
+          let parts = word_parts (count_in old) (join.1.0 + 1) (omega (arith, l, e)) in
+          let head : head_in new ≡ join.1.0 + 1 = ap head_in join.1.5 ∙ parts.1 in
+          (λ z. let no : ⊥ = omega (arith, head, z) in absurd no, λ ne. ap count_in join.1.5 ∙ parts.0)
+    ]
 
     future_of : is_counter (x.owner c) ≡ false → (p : Path) × (N.name c ≡ Some (Future p))
     future_of f = let a = named_some c (N.name c) refl (N.cell_holds c) some in elim (kind_by a.0 (x.owner c) (named_of program source h x N c a.0 a.1).owner_word) [
-        | inl k ↦ (k.0, a.1 ∙ ap Some k.1)
-        | inr k ↦ let t = k.3 in let no : ⊥ = cc in absurd no
-      ]
+      | inl k ↦ (k.0, a.1 ∙ ap Some k.1)
+      | inr k ↦ let t = k.3 in let no : ⊥ = cc in absurd no
+    ]
 
     counter_of : is_counter (x.owner c) ≡ true → (p : Path) × (k : ℕ) × (N.name c ≡ Some (Counter p k))
     counter_of t = let a = named_some c (N.name c) refl (N.cell_holds c) some in elim (kind_by a.0 (x.owner c) (named_of program source h x N c a.0 a.1).owner_word) [
-        | inl k ↦ let f = k.2 in let no : ⊥ = cc in absurd no
-        | inr k ↦ (k.0, k.1, a.1 ∙ ap Some k.2)
-      ]
+      | inl k ↦ let f = k.2 in let no : ⊥ = cc in absurd no
+      | inr k ↦ (k.0, k.1, a.1 ∙ ap Some k.2)
+    ]
 
     -- a future
     future_kept : (b : Bool) → (new == full_word) ≡ b → is_counter (x.owner c) ≡ false → (g : Heap) → future_behind program source h b c u v g → Changed g

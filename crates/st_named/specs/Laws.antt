@@ -1,6 +1,6 @@
 -- The laws of names, over worlds with a heap behind. Read Kept and MovesKept (each careful step, and each move between steps, keeps them), ToldLaws (what follows for the
 -- answers of steps, for each view, and for what the words show) and First.
-use Rattle.std.specs.Prelude.{◌≡◌, ◌≢◌, ◌⊎◌, ℕ, ◌/◌, ◌≤◌, ◌<◌, List, Option, Some, None}
+use Rattle.std.specs.Prelude.{◌≡◌, ◌≢◌, ℕ, ◌/◌, ◌≤◌, ◌<◌, Some}
 use Rattle.std.specs.List.{Contains}
 use Rattle.st_base.specs.declared.chain.Chain.{Chain}
 use Rattle.st_base.specs.declared.limits.Limits.{Limits}
@@ -21,7 +21,7 @@ use Rattle.st_model.specs.declared.program.Program.{Program}
 use Rattle.st_model.specs.declared.ordinary.State.{State}
 use Rattle.st_model.specs.Memory.{Data}
 use Rattle.st_model.specs.Ordinary.{start}
-use Rattle.st_model.specs.Heap.{Path, Heap, HasEnded, new_thread, first_heap}
+use Rattle.st_model.specs.Heap.{Path, Heap, new_thread, first_heap}
 use Rattle.st_made.specs.Items.{MeansItems}
 use Rattle.st_made.specs.Runs.{HasSeen}
 use Rattle.st_world.specs.World.{World, slot_of, cargo_of, seen, Finds, world_after}

@@ -1,7 +1,7 @@
 -- The names of cells, and what the words of a cell show of the heap-frame machine behind the board. Read Named, which is of a heap and a world: each thread and each counter has
 -- one cell, whose Owner word tells its name, and whose State and Value words show whether the thread has ended and with what, or what the count is; a worker
 -- knows the names that its threads have.
-use Rattle.std.specs.Prelude.{◌≡◌, ◌≢◌, ◌⊎◌, ℕ, ◌<◌, List, [], ◌∷◌, ◌++◌, Option, Some, None}
+use Rattle.std.specs.Prelude.{◌≡◌, ◌≢◌, ◌⊎◌, ℕ, ◌<◌, [], ◌∷◌, ◌++◌, Option, Some, None}
 use Rattle.std.specs.List.{Contains}
 use Rattle.st_base.specs.declared.chain.Chain.{Chain}
 use Rattle.st_base.specs.declared.thread.Held.{Held}
