@@ -35,23 +35,13 @@ use Rattle.st_world.specs.Functions.{put}
 use Rattle.st_world.specs.OfPlain.{reading, reading_slot, reading_cargo, world_of}
 use Rattle.st_world.specs.World.{slot_of, cargo_of}
 use Rattle.st_world.proofs.Functions.{put_case, put_all}
+use Rattle.st_world.proofs.Opened.{alike, led_first, led_other}
 use Rattle.st_named.specs.Naming.{CellHolds, ViewNames, SlotNames, Named}
 use Rattle.st_named.specs.Laws.{First}
 use Rattle.st_named.proofs.Known.{KnowsAll, ThreadKnows, knows_of}
 use Rattle.st_named.proofs.Told.{Parts, parts_view}
 
 -- ---- lists
-
-alike : {X : Type 0} (n i : ℕ) (x : X) → slice_index_or (replicate n x) i x ≡ x
-alike {X} n i x = dite (dec_le (suc i) n)
-    (λ (l : suc i ≤ n). get_or-replicate n i x x l)
-    (λ (o : suc i ≤ n → ⊥). let count : length (replicate n x) ≡ n = length-replicate n x in get_or_past (replicate n x) i x (omega arith))
-
-led_first : {X : Type 0} (n : ℕ) (x y : X) → 0 < n → slice_index_or (slice_set (replicate n x) 0 y) 0 x ≡ y
-led_first {X} n x y l = let count : length (replicate n x) ≡ n = length-replicate n x in get_or-set_same (replicate n x) 0 y x (omega (arith, count, l))
-
-led_other : {X : Type 0} (n i : ℕ) (x y : X) → i ≢ 0 → slice_index_or (slice_set (replicate n x) 0 y) i x ≡ x
-led_other {X} n i x y d = get_or-set_other (replicate n x) 0 i y x d ∙ alike n i x
 
 -- ---- the root's thread has no names
 

@@ -194,8 +194,13 @@ module _ (m : Meaning) (g : Groups m) (program : Program) (source : Data) (limit
   threads_know s can = tt
 
   pub names_know : (s : Step) → Can u s → Careful m u s → NamesKnow x u s
-  names_know (CellStore c Owner n) can careful = (g.draws_told.unnamed x w c r.draws can.1.0).0
-  names_know (CellChange c old new) can careful = (kind_known c (changes_cell c old new careful), hand_small)
+  names_know (CellStore c Owner n) can careful =
+      let b = can.0 in
+      let e = r.lists.sized w is in
+      ((g.draws_told.unnamed x w c r.draws can.1.0).0, omega (arith, b, e))
+  names_know (CellChange c old new) can careful =
+      let k = changes_cell c old new careful in
+      (named_known c k, kind_known c k, hand_small)
   names_know s can careful = tt
 
   pub limits_know : (s : Step) → Can u s → LimitsKnow x w u s
