@@ -1,7 +1,7 @@
 -- A board that is opened for the root's thread has the root's cell named, and no other: first_names.
-use Rattle.std.proofs.Common.{◌≡◌, ◌≢◌, inl, ⊎_elim, ℕ, suc, ◌/◌, ◌<◌, ◌≤◌, [], length, replicate, Option, Some, None, refl, sym, ap, ◌∙◌, subst, arith, slice_set, slice_index_or, get_or-set_same, get_or-set_other}
+use Rattle.std.proofs.Common.{◌≡◌, ◌≢◌, inl, ⊎_elim, ℕ, suc, ◌/◌, ◌<◌, ◌≤◌, [], length, replicate, Option, Some, None, refl, sym, ap, ◌∙◌, subst, arith, slice_set}
 use Rattle.std.specs.Prelude.{slice_get}
-use Rattle.std.proofs.lemmas.List.{length-replicate, get_or-replicate, get_or_past}
+use Rattle.std.proofs.lemmas.List.{get_or_past}
 use Rattle.std.proofs.Math.Decide.{dec_le}
 use mathlib.Core.Logic.{dite}
 use native.Mathlib.Decide.{ℕ_discrete}

@@ -1,5 +1,5 @@
 -- What the groups know of each other: for a careful step of a worker on a board with the rule, the premises that each group's law names.
-use Rattle.std.proofs.Common.{◌≡◌, ◌≢◌, ◌⊎◌, inl, inr, ⊎_elim, ℕ, ◌+◌, ◌^◌, ◌≤◌, ◌<◌, ◌-◌, nat_lt, Bool, true, false, if◌then◌else◌, Option, Some, None, refl, sym, ◌∙◌, ap, subst, arith}
+use Rattle.std.proofs.Common.{◌≡◌, ◌≢◌, ◌⊎◌, inl, inr, ⊎_elim, ℕ, ◌+◌, ◌^◌, ◌≤◌, ◌<◌, ◌-◌, nat_lt, Bool, true, false, if◌then◌else◌, Some, None, refl, ◌∙◌, ap, subst, arith}
 use Rattle.std.specs.List.{Contains}
 use Rattle.st_base.specs.declared.chain.Chain.{Chain}
 use Rattle.st_base.specs.declared.chain.Waiting.{Waiting}
@@ -11,17 +11,15 @@ use Rattle.st_words.specs.declared.view.Slot.TheVariants.{Cell, Mail}
 use Rattle.st_words.specs.declared.view.Cargo.{Cargo}
 use Rattle.st_words.specs.declared.view.Waiter.{Waiter}
 use Rattle.st_words.specs.declared.view.View.{View}
-use Rattle.st_words.specs.Encodings.{full_word, count_in, ready, counter_word, count_after}
-use Rattle.st_words.specs.Steps.{Step, CellStore, CellChange, SlotTake, SlotPut, Draw, StopSet, Can, IsFuture, IsCounter, IsDone, HasThread, HasChain, HasInHand, MayTake, MayPut}
-use Rattle.st_words.specs.Promises.{IsActive}
-use Rattle.st_words.specs.Careful.{Meaning, Careful, IsAtHome, standing_of, InHand, IsOver as HasSeenOver}
-use Rattle.st_words.specs.Views.{no_cargo}
+use Rattle.st_words.specs.Encodings.{count_in, ready, counter_word, count_after}
+use Rattle.st_words.specs.Steps.{Step, CellStore, CellChange, SlotTake, SlotPut, Draw, StopSet, Can, IsFuture, IsCounter, HasInHand, MayTake}
+use Rattle.st_words.specs.Careful.{Meaning, Careful, IsAtHome, standing_of, IsOver as HasSeenOver}
 use Rattle.st_model.specs.declared.program.Program.{Program}
 use Rattle.st_model.specs.Memory.{Data}
 use Rattle.st_model.specs.Heap.{Heap}
 use Rattle.st_made.specs.Runs.{HasSeen}
 use Rattle.st_world.specs.World.{World, slot_of}
-use Rattle.st_lists.specs.Listing.{Held, Nowhere, counters}
+use Rattle.st_lists.specs.Listing.{Held, counters}
 use Rattle.st_lists.specs.Laws.{KnowsKind, IsKnown as ListsKnow}
 use Rattle.st_places.specs.Placing.{IsOver}
 use Rattle.st_places.specs.Steps.{IsKnown as PlacesKnow}

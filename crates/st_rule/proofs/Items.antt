@@ -1,5 +1,5 @@
 -- What the item that goes with a step does to the threads of a view: which thread goes out (threads_go), and that none is begun where there was none (none_begun).
-use Rattle.std.proofs.Common.{◌≡◌, ◌≢◌, ℕ, ◌≤◌, Bool, true, false, not, ◌&&◌, ◌==◌, List, [], ◌∷◌, Some, sym, ◌∙◌, ap, subst, arith}
+use Rattle.std.proofs.Common.{◌≡◌, ℕ, ◌≤◌, Bool, true, false, not, ◌&&◌, ◌==◌, List, [], ◌∷◌, sym, ◌∙◌, ap, arith}
 use Rattle.st_words.specs.declared.view.CellWord.TheVariants.{Owner}
 use Rattle.st_words.specs.declared.view.Known.{Known}
 use Rattle.st_words.specs.declared.view.View.{View}

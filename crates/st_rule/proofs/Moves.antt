@@ -1,5 +1,5 @@
 -- What a worker does between its steps keeps the rule: one move (one_kept), and a list of them (moves_kept).
-use Rattle.std.proofs.Common.{◌≡◌, ◌≢◌, ◌⊎◌, inl, inr, ⊎_elim, ℕ, ◌≤◌, ◌<◌, true, List, [], ◌∷◌, refl, sym, ◌∙◌, ap, subst, arith}
+use Rattle.std.proofs.Common.{◌≡◌, ◌≢◌, ◌⊎◌, inl, inr, ℕ, ◌<◌, true, List, [], ◌∷◌, refl, sym, ◌∙◌, ap, subst, arith}
 use mathlib.Core.Logic.{dite}
 use native.Mathlib.Decide.{ℕ_discrete}
 use Rattle.st_base.specs.declared.limits.Limits.{Limits}
@@ -10,9 +10,9 @@ use Rattle.st_words.specs.Views.{Progress, with_progress}
 use Rattle.st_words.specs.Careful.{Meaning}
 use Rattle.st_model.specs.declared.program.Program.{Program}
 use Rattle.st_model.specs.Memory.{Data}
-use Rattle.st_model.specs.Heap.{Path, Heap, HStep, Run}
+use Rattle.st_model.specs.Heap.{Path, Heap, HStep}
 use Rattle.st_made.specs.Items.{went, born, child_path}
-use Rattle.st_made.specs.Moves.{OneMove, AllMoves, Made, Begins, MakesItem, MakesFork, Suspends, Gives, Restarts, Exports}
+use Rattle.st_made.specs.Moves.{OneMove, AllMoves, Begins, MakesItem, MakesFork, Suspends, Gives, Restarts, Exports}
 use Rattle.st_world.specs.Functions.{put}
 use Rattle.st_world.specs.World.{World, seen}
 use Rattle.st_world.proofs.Functions.{put_here, put_other, put_id, function_same}

@@ -1,5 +1,5 @@
 -- A board that is opened for the root's thread has the rule: rule_opened; and what it means that nothing is active: rule_rests.
-use Rattle.std.proofs.Common.{◌≡◌, ◌≢◌, inr, ℕ, ◌/◌, ◌<◌, List, [], ◌∷◌, Option, Some, None, refl, sym, ◌∙◌, subst}
+use Rattle.std.proofs.Common.{◌≡◌, ◌≢◌, inr, ℕ, ◌/◌, ◌<◌, List, [], ◌∷◌, Option, Some, None, refl, sym, subst}
 use mathlib.Core.Logic.{dite}
 use native.Mathlib.Decide.{ℕ_discrete}
 use Rattle.st_base.specs.declared.chain.Chain.{Chain}

@@ -1,10 +1,8 @@
 -- What is always so of a view where the rule holds: rule_tidy.
-use Rattle.std.proofs.Common.{◌≡◌, ◌≢◌, ◌⊎◌, inl, inr, ⊎_elim, ℕ, ◌<◌, List, [], ◌∷◌, sym, subst, arith}
-use Rattle.std.specs.List.{Contains}
+use Rattle.std.proofs.Common.{inl, inr, ⊎_elim, ℕ, ◌<◌, List, [], ◌∷◌, arith}
 use Rattle.st_base.specs.declared.limits.Limits.{Limits}
 use Rattle.st_words.specs.declared.view.Waiter.{Waiter}
 use Rattle.st_words.specs.declared.view.View.{View}
-use Rattle.st_words.specs.Steps.{HasThread, HasChain, HasInHand}
 use Rattle.st_words.specs.Careful.{Meaning}
 use Rattle.st_words.specs.Tidy.{AreOnce, TidyNumbers, TidyNames}
 use Rattle.st_model.specs.declared.program.Program.{Program}

@@ -6,13 +6,12 @@ use Rattle.st_base.specs.declared.chain.Chain.{Chain}
 use Rattle.st_base.specs.declared.chain.Waiting.{Waiting}
 use Rattle.st_base.specs.declared.chain.Waiting.TheVariants as waits
 use Rattle.st_words.specs.declared.view.CellWord.TheVariants.{Owner, State, Value, Next, Standing, Trap}
-use Rattle.st_words.specs.declared.view.Slot.{Slot}
 use Rattle.st_words.specs.declared.view.Slot.TheVariants.{Cell, Mail}
 use Rattle.st_words.specs.declared.view.Carried.{Carried}
 use Rattle.st_words.specs.declared.view.Cargo.{Cargo}
 use Rattle.st_words.specs.declared.view.View.{View}
 use Rattle.st_words.specs.Encodings.{ready}
-use Rattle.st_words.specs.Steps.{Step, CellStore, CellChange, StopSet, RequestChange, SlotTake, SlotPut, Answer, Done, Number, Looked, Took}
+use Rattle.st_words.specs.Steps.{Step, CellStore, CellChange, StopSet, RequestChange, SlotTake, SlotPut, Answer, Number}
 use Rattle.st_words.specs.Careful.{Meaning, Careful, ShowsPlace}
 use Rattle.st_words.specs.Views.{no_cargo, in_hand}
 use Rattle.st_words.specs.Plain.{readied}

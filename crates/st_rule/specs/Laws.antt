@@ -1,7 +1,7 @@
 -- The laws of the rule. Read RuleKept (each careful step, with the item that goes with it, keeps the rule, of a heap to which the item leads), RuleMoves (so does all that a worker does
 -- between steps), RuleTold, RuleComes and RuleTidy (what the answers promise, what a chain that is taken stands for, and what is always so of a view),
 -- RuleRests (what it means that nothing is active) and RuleOpened.
-use Rattle.std.specs.Prelude.{◌≡◌, ◌≢◌, ◌⊎◌, ℕ, ◌/◌, ◌≤◌, ◌<◌, List, Option, Some, None}
+use Rattle.std.specs.Prelude.{◌≡◌, ◌⊎◌, ℕ, ◌/◌, ◌≤◌, ◌<◌, List, Some, None}
 use Rattle.st_base.specs.declared.chain.Chain.{Chain}
 use Rattle.st_base.specs.declared.limits.Limits.{Limits}
 use Rattle.st_words.specs.declared.view.Slot.{Slot}
