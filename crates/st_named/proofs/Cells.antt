@@ -35,7 +35,7 @@ use Rattle.st_threads.proofs.Holdings.{told_laws as threads_told}
 use Rattle.st_named.specs.Naming.{OwnerOf, ShowsName, CellHolds, ViewNames, Named}
 use Rattle.st_named.proofs.Heaps.{Grows, NameStays, grows_same, grows_after, own_after, threads_back, made_back, count_case, stays_same, stays_of, shows_on}
 use Rattle.st_named.proofs.Told.{Tells, Extends, PartsOf, child_cell, child_of, told_cons, told_extends, told_here, told_more, told_rest, told_went, parts_on, parts_view}
-use Rattle.st_named.proofs.Keeping.{named_of, slot_on, children_on, parts, parts_at, none_coming, top_of}
+use Rattle.st_named.proofs.Keeping.{named_of, slot_on, children_on, parts, parts_at, told_top, none_coming, top_of}
 
 -- ---- names
 
@@ -179,7 +179,7 @@ module _ (program : Program) (source : Data) (h : Heap) (x : World) (N : Named p
     K = top_of h x w top rest T is
 
     told : Tells N.name u.names (top ∷ (rest ++ known_of u.chains))
-    told = subst (λ l. Tells N.name u.names (l ++ known_of u.chains)) is P.told
+    told = told_top program source h N.name x.value u top rest is P
 
     note : N.name top.note.cell ≡ Some (Future top.path)
     note = (told_here N.name u.names top (rest ++ known_of u.chains) told).note

@@ -1,5 +1,5 @@
 -- What is kept where no cell is named: kept, by what is so then (Next). heap_same and heap_goes: of the heap, by an item that makes no counter. Parts of a view: parts_same (nothing
--- that is read changes) and goes_view (the top thread after an item).
+-- that is read changes) and goes_view (the top thread after an item). calm and item_kept: no word is changed, with no item or one of the top thread.
 use Rattle.std.proofs.Common.{◌≡◌, ◌≢◌, ◌⊎◌, inl, inr, ℕ, List, ◌∷◌, ◌++◌, Option, Some, None, refl, sym, ap, ◌∙◌, subst, arith}
 use Rattle.std.specs.List.{Contains}
 use mathlib.Core.Logic.{dite}
@@ -18,15 +18,15 @@ use Rattle.st_model.specs.declared.program.Program.{Program}
 use Rattle.st_model.specs.Memory.{Data}
 use Rattle.st_model.specs.Heap.{Path, Heap, Change, Enabled, IsNumbered}
 use Rattle.st_laws.specs.Names.{IsThread, IsMade}
-use Rattle.st_made.specs.Items.{went, child_path, next_move, IsAtFork}
+use Rattle.st_made.specs.Items.{IsLive, went, child_path, next_move, IsAtFork}
 use Rattle.st_made.specs.Runs.{known_of}
 use Rattle.st_world.specs.Functions.{put}
-use Rattle.st_world.specs.World.{World, slot_of, cargo_of}
+use Rattle.st_world.specs.World.{World, slot_of, cargo_of, seen}
 use Rattle.st_world.proofs.Functions.{put_here, put_other, put_all}
 use Rattle.st_threads.specs.Behind.{heap_on}
 use Rattle.st_threads.specs.Holding.{IsOf, Threads}
 use Rattle.st_named.specs.Naming.{ShowsName, WillEnd, IsNamed, CellHolds, ViewNames, SlotNames, Naming, Named}
-use Rattle.st_named.proofs.Heaps.{Grows, grows_same, grows_after, enabled_is, threads_back, made_back, count_case, NameStays, shows_on}
+use Rattle.st_named.proofs.Heaps.{Grows, grows_same, grows_after, enabled_is, threads_back, made_back, count_case, NameStays, stays_of, shows_on}
 use Rattle.st_named.proofs.Told.{Tells, Extends, Parts, PartsOf, child_cell, child_of, told_cons, told_here, told_rest, told_went, parts_on, view_parts, parts_view}
 use Rattle.st_named.proofs.ViewsAfter.{SameParts}
 
@@ -102,8 +102,8 @@ module _ (program : Program) (source : Data) (h : Heap) (x : World) (N : Named p
   heap_same = record { grows = grows_same program source h; threads = N.threads; counters = N.counters; counts = N.counts }
 
   -- no word and no slot is changed
-  pub calm : (h' : Heap) (v : View) → HeapOn h' → ((n : Held) → NameStays h h' n) → ((c : ℕ) → child_cell (x.view w).child ≡ Some c → (child_cell v.child ≡ Some c) ⊎ ((p : Path) → N.name c ≡ Some (Future p) → IsThread h' p)) → PartsOf program source h' N.name x.value v → Next h' x.state x.value (slot_of x) (cargo_of x) v
-  calm h' v on stays coming view = record {
+  pub calm : (h' : Heap) (v : View) → HeapOn h' → ((n : Held) → NameStays h h' n) → ((c : ℕ) → child_cell (x.view w).child ≡ Some c → (child_cell v.child ≡ Some c) ⊎ ((p : Path) → N.name c ≡ Some (Future p) → IsThread h' p)) → PartsOf program source h' N.name x.value v → Named program source h' (seen w v x)
+  calm h' v on stays coming view = kept h' x.state x.value (slot_of x) (cargo_of x) v (record {
     heap = on;
     empty = λ c e z. z;
     shows = λ c n e k. shows_on program source h h' (x.state c) (x.value c) n on.grows (stays n) k;
@@ -111,7 +111,7 @@ module _ (program : Program) (source : Data) (h : Heap) (x : World) (N : Named p
     coming = coming;
     view = view;
     slots = slots_same h';
-  }
+  })
 
   -- an item that makes no counter; a child's cell is named, and a counter that is added to is there
   pub heap_goes : (top : Known) (c : Change) → IsNumbered h → h.thread top.path ≡ Some top.thread → Enabled h (next_move program source top) c → (c.child ≢ None → N.name (N.cell (Future (child_path top))) ≡ Some (Future (child_path top))) → c.own.counters ≡ top.thread.counters → ((q : Path) (i : ℕ) → c.added ≡ Some (q, i) → IsMade h q i) → HeapOn (heap_on h top c)
@@ -151,17 +151,21 @@ parts_at program source h name value v names threads turn child valued a b c d e
 pub parts_same : (program : Program) (source : Data) (h : Heap) (name : ℕ → Option Held) (value : ℕ → ℕ) (u v : View) → SameParts u v → v.threads ≡ u.threads → PartsOf program source h name value u → PartsOf program source h name value v
 parts_same program source h name value u v s t P = parts_at program source h name value v u.names u.threads (known_of u.chains) (child_cell u.child) u.valued s.0 t s.1 s.2 s.3 P
 
+-- the top thread in front of the others
+pub told_top : (program : Program) (source : Data) (h : Heap) (name : ℕ → Option Held) (value : ℕ → ℕ) (u : View) (top : Known) (below : List Known) → u.threads ≡ top ∷ below → PartsOf program source h name value u → Tells name u.names (top ∷ (below ++ known_of u.chains))
+told_top program source h name value u top below is P = subst (λ l. Tells name u.names (l ++ known_of u.chains)) is P.told
+
 -- who makes an item without a child has no next child
 pub none_coming : (program : Program) (source : Data) (h : Heap) (name : ℕ → Option Held) (value : ℕ → ℕ) (u : View) (top : Known) (below : List Known) (c : Change) → u.threads ≡ top ∷ below → Enabled h (next_move program source top) c → c.child ≡ None → PartsOf program source h name value u → (d : ℕ) → child_cell u.child ≡ Some d → ⊥
 none_coming program source h name value u top below c is enabled none P d e =
     let fork : IsAtFork program source top = (subst (λ l. TopIs l (λ t. (name d ≡ Some (Future (child_path t))) × IsAtFork program source t)) is (P.coming d e)).1 in
     fork.2 (ap (λ (y : Change). y.child) (sym (enabled_is h (next_move program source top) c fork.0 fork.1 enabled)) ∙ none)
 
--- the top thread after an item that makes no child, where the counter that it may make is among the names
+-- the top thread after an item that makes no child and no counter
 pub goes_view : (program : Program) (source : Data) (h h' : Heap) (name : ℕ → Option Held) (value : ℕ → ℕ) (u v : View) (top : Known) (below : List Known) (c : Change) → u.threads ≡ top ∷ below → v.threads ≡ went top c.own ∷ below → SameParts u v → Enabled h (next_move program source top) c → c.child ≡ None → c.own.counters ≡ top.thread.counters → Grows program source h h' → PartsOf program source h name value u → PartsOf program source h' name value v
 goes_view program source h h' name value u v top below c is then' same enabled none counters grows P =
     let turn = known_of u.chains in
-    let told : Tells name u.names (top ∷ (below ++ turn)) = subst (λ l. Tells name u.names (l ++ turn)) is P.told in
+    let told = told_top program source h name value u top below is P in
     let on = parts_on program source h h' name name value value u (λ c n e. e) grows (λ c n p e w z. z) P in
     parts_at program source h' name value v u.names (went top c.own ∷ below) turn (child_cell u.child) u.valued same.0 then' same.1 same.2 same.3 (record {
       told = told_cons name u.names (went top c.own) (below ++ turn)
@@ -170,3 +174,12 @@ goes_view program source h h' name value u v top below c is then' same enabled n
       coming = λ d e. absurd (none_coming program source h name value u top below c is enabled none P d e);
       stored = on.stored;
     })
+
+-- an item that changes no word: it makes nothing, adds to nothing and doesn't end the thread
+pub item_kept : (program : Program) (source : Data) (h : Heap) (x : World) (N : Named program source h x) (w : ℕ) → Threads h x → (v : View) (top : Known) (below : List Known) (c : Change) → (x.view w).threads ≡ top ∷ below → v.threads ≡ went top c.own ∷ below → SameParts (x.view w) v → Enabled h (next_move program source top) c → c.child ≡ None → c.added ≡ None → c.own.counters ≡ top.thread.counters → IsLive c.own.standing → Named program source (heap_on h top c) (seen w v x)
+item_kept program source h x N w T v top below c is threads same enabled child added counters live =
+    let here = (top_of h x w top below T is).there in
+    let none : (q : Path) (i : ℕ) → c.added ≡ Some (q, i) → ⊥ = λ q i e. let no : ⊥ = cc in no in
+    let on = heap_goes program source h x N w top c T.numbered here enabled (λ some. absurd (some child)) counters (λ q i e. absurd (none q i e)) in
+    calm program source h x N w (heap_on h top c) v on (λ n. stays_of program source h top.path top.thread c n here enabled (inl live) (λ q i e. absurd (none q i e))) (λ d e. inl (same.2 ∙ e))
+    (goes_view program source h (heap_on h top c) N.name x.value (x.view w) v top below c is threads same enabled child counters on.grows (parts program source h x N w))

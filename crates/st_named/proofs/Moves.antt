@@ -23,7 +23,7 @@ use Rattle.st_made.specs.Items.{IsLive, went, born, child_path, next_move, IsAtF
 use Rattle.st_made.specs.Runs.{known_of, HasSeen}
 use Rattle.st_made.proofs.MadeRuns.{at_once}
 use Rattle.st_made.proofs.Running.{enough}
-use Rattle.st_world.specs.World.{World, slot_of, cargo_of, seen}
+use Rattle.st_world.specs.World.{World, seen}
 use Rattle.st_threads.specs.Behind.{heap_on, Makes, Forks, IsStill}
 use Rattle.st_threads.specs.Holding.{Threads}
 use Rattle.st_threads.proofs.Lists.{known_in, left_back}
@@ -32,7 +32,7 @@ use Rattle.st_named.specs.Laws.{MovesKept}
 use Rattle.st_named.proofs.Heaps.{stays_same, stays_of}
 use Rattle.st_named.proofs.Known.{child_knows}
 use Rattle.st_named.proofs.Told.{Tells, Covers, PartsOf, child_cell, told_cons, told_fewer, told_here, told_rest, told_went, parts_on}
-use Rattle.st_named.proofs.Keeping.{kept, calm, parts, named_of, heap_same, heap_goes, top_of, goes_view}
+use Rattle.st_named.proofs.Keeping.{calm, parts, named_of, heap_same, heap_goes, top_of, told_top, item_kept}
 
 -- ---- threads that are the same
 
@@ -77,11 +77,11 @@ module _ (program : Program) (source : Data) (h : Heap) (x : World) (N : Named p
 
   -- the threads and the turn are among those before, and so is the top thread where it has a next child
   still : (u : View) (ts us : List Known) → v.threads ++ known_of v.chains ≡ ts → u.threads ++ known_of u.chains ≡ us → Covers ts us → u.names ≡ v.names → child_cell u.child ≡ child_cell v.child → u.valued ≡ v.valued → ((d : ℕ) → child_cell v.child ≡ Some d → TopIs v.threads (HasNext d) → TopIs u.threads (HasNext d)) → Named program source h (seen w u x)
-  still u ts us a b covers names child valued top = kept program source h x N w h x.state x.value (slot_of x) (cargo_of x) u (calm program source h x N w h u (heap_same program source h x N w) (stays_same h) (λ c e. inl (child ∙ e)) (record {
+  still u ts us a b covers names child valued top = calm program source h x N w h u (heap_same program source h x N w) (stays_same h) (λ c e. inl (child ∙ e)) (record {
     told = subst (λ l. Tells N.name l (u.threads ++ known_of u.chains)) (sym names) (subst (Tells N.name v.names) (sym b) (told_fewer N.name v.names ts us covers (subst (Tells N.name v.names) a P.told)));
     coming = λ d e. let f : child_cell v.child ≡ Some d = sym child ∙ e in top d f (P.coming d f);
     stored = λ c n m. P.stored c n (subst (λ l. Contains l (c, n)) valued m);
-  }))
+  })
 
   stays_still : (u : View) → IsStill program source h v u → Named program source h (seen w u x)
   stays_still u (inl m) =
@@ -116,16 +116,10 @@ module _ (program : Program) (source : Data) (h : Heap) (x : World) (N : Named p
     makes u h' m =
         let o = m.of in
         let c = o.change in
-        let here = (top_of h x w o.top o.rest T o.is).there in
-        let enabled : Enabled h (next_move program source o.top) c = enough h v (next_move program source o.top) c sees o.can in
-        let on = heap_goes program source h x N w o.top c T.numbered here enabled (λ some. absurd (some o.private.child)) o.private.counters (λ q i e. let none = o.private.added in let no : ⊥ = cc in absurd no) in
-        let u' : View = record v { threads = went o.top c.own ∷ o.rest; frame_bytes = v.frame_bytes + frame_made program o.top.path o.top.thread } in
-        subst (λ k. Named program source k (seen w u x)) (sym m.heap)
+        let k = o.private in
+        subst (λ g. Named program source g (seen w u x)) (sym m.heap)
         (subst (λ z. Named program source (heap_on h o.top c) (seen w z x)) (sym o.after)
-        (kept program source h x N w (heap_on h o.top c) x.state x.value (slot_of x) (cargo_of x) u' (calm program source h x N w (heap_on h o.top c) u' on
-        (λ n. stays_of program source h o.top.path o.top.thread c n here enabled (inl o.private.live) (λ q i e. let none = o.private.added in let no : ⊥ = cc in absurd no))
-        (λ d e. inl e)
-        (goes_view program source h (heap_on h o.top c) N.name x.value v u' o.top o.rest c o.is refl (refl, refl, refl, refl) enabled o.private.child o.private.counters on.grows P))))
+        (item_kept program source h x N w T (record v { threads = went o.top c.own ∷ o.rest; frame_bytes = v.frame_bytes + frame_made program o.top.path o.top.thread }) o.top o.rest c o.is refl (refl, refl, refl, refl) (enough h v (next_move program source o.top) c sees o.can) k.child k.added k.counters k.live))
 
     -- ---- a fork
 
@@ -149,11 +143,11 @@ module _ (program : Program) (source : Data) (h : Heap) (x : World) (N : Named p
         let on = heap_goes program source h x N w top c T.numbered here enabled (λ e. ap N.name (named_of program source h x N o.cell (Future (child_path top)) name).one ∙ name) same (λ q i e. let none = draw.2 in let no : ⊥ = cc in absurd no) in
         let child = born o.cell (child_path top) o.child in
         let u' = beginning child (went top c.own) o.rest v in
-        let told : Tells N.name v.names (top ∷ (o.rest ++ known_of v.chains)) = subst (λ l. Tells N.name v.names (l ++ known_of v.chains)) o.is P.told in
+        let told = told_top program source h N.name x.value v top o.rest o.is P in
         let above = told_here N.name v.names top (o.rest ++ known_of v.chains) told in
         subst (λ k. Named program source k (seen w u x)) (sym m.heap)
         (subst (λ z. Named program source g (seen w z x)) (sym o.after)
-        (kept program source h x N w g x.state x.value (slot_of x) (cargo_of x) u' (calm program source h x N w g u' on
+        (calm program source h x N w g u' on
         (λ n. stays_of program source h top.path top.thread c n here enabled (inl (subst IsLive (sym draw.1) tt)) (λ q i e. let none = draw.2 in let no : ⊥ = cc in absurd no))
         (λ d e. inr (λ p is. (o.child, subst (λ q. g.thread q ≡ Some o.child) (same_future N.name d p o.cell (child_path top) is name (let f = ap child_cell o.may.named in cc)) A.child_there)))
         (record {
@@ -161,7 +155,7 @@ module _ (program : Program) (source : Data) (h : Heap) (x : World) (N : Named p
               (told_cons N.name v.names (went top c.own) (o.rest ++ known_of v.chains) (told_went program source h N.name v.names top c enabled (λ e. (o.cell, o.name)) (λ other. absurd (other same)) above) (told_rest N.name v.names top (o.rest ++ known_of v.chains) told));
           coming = λ d e. let no : ⊥ = cc in absurd no;
           stored = (parts_on program source h g N.name N.name x.value x.value v (λ k n e. e) on.grows (λ k n p e z i. i) P).stored;
-        }))))
+        })))
 
 pub moves_keep : MovesKept
 moves_keep program source h h' x w u T N less sees (inl m) = subst (λ k. Named program source k (seen w u x)) (sym m.1) (stays_still program source h x N w u m.0)

@@ -1,5 +1,5 @@
 -- Each careful step keeps the names, with the heap after its item: step_kept.
-use Rattle.std.proofs.Common.{◌≡◌, inl, inr, ℕ, Bool, true, false, Some, refl, sym, ap, ◌∙◌, subst, ◌==◌, ◌&&◌}
+use Rattle.std.proofs.Common.{◌≡◌, inl, inr, ℕ, Bool, true, false, refl, sym, ap, ◌∙◌, subst, ◌==◌, ◌&&◌}
 use Rattle.st_base.specs.declared.chain.Chain.{Chain}
 use Rattle.st_words.specs.declared.view.CellWord.{CellWord}
 use Rattle.st_words.specs.declared.view.CellWord.TheVariants.{Owner, State, Value, Standing}
@@ -14,21 +14,21 @@ use Rattle.st_words.proofs.Lists.{same_true}
 use Rattle.st_words.proofs.Safe.{counter_kind}
 use Rattle.st_model.specs.declared.program.Program.{Program}
 use Rattle.st_model.specs.Memory.{Data}
-use Rattle.st_model.specs.Heap.{Path, Heap, Enabled}
-use Rattle.st_made.specs.Items.{MeansItems, next_move}
+use Rattle.st_model.specs.Heap.{Heap}
+use Rattle.st_made.specs.Items.{MeansItems}
 use Rattle.st_made.specs.Runs.{known_of}
 use Rattle.st_made.specs.Events.{PrintsWord}
 use Rattle.st_made.proofs.MadeRuns.{at_once}
 use Rattle.st_world.specs.Functions.{put}
-use Rattle.st_world.specs.World.{World, slot_of, cargo_of, seen, put_if, Finds, world_after}
-use Rattle.st_threads.specs.Behind.{heap_on, Rests, Goes, change_behind, owner_behind, StepBehind}
+use Rattle.st_world.specs.World.{World, seen, put_if, Finds, world_after}
+use Rattle.st_threads.specs.Behind.{Rests, Goes, change_behind, owner_behind, StepBehind}
 use Rattle.st_threads.specs.Holding.{Threads}
 use Rattle.st_named.specs.Naming.{Named}
 use Rattle.st_named.specs.Laws.{IsKnown, Kept}
-use Rattle.st_named.proofs.Heaps.{stays_same, stays_of}
-use Rattle.st_named.proofs.Told.{PartsOf, child_cell}
+use Rattle.st_named.proofs.Heaps.{stays_same}
+use Rattle.st_named.proofs.Told.{child_cell}
 use Rattle.st_named.proofs.ViewsAfter.{SameParts, IsSame, same_after}
-use Rattle.st_named.proofs.Keeping.{kept, calm, parts, parts_same, heap_same, heap_goes, top_of, goes_view}
+use Rattle.st_named.proofs.Keeping.{calm, parts, parts_same, heap_same, item_kept}
 use Rattle.st_named.proofs.Cells.{top_is, named_counter, named_child}
 use Rattle.st_named.proofs.Words.{state_kept, value_kept}
 use Rattle.st_named.proofs.Slots.{taken_kept, put_kept, readied_kept}
@@ -49,9 +49,6 @@ module _ (program : Program) (source : Data) (h : Heap) (x : World) (N : Named p
   abbrev u : View
   u = x.view w
 
-  P : PartsOf program source h N.name x.value u
-  P = parts program source h x N w
-
   same_does : (s : Step) (a : Answer) (v : View) → IsSame s → Does u s a v → SameParts u v
   same_does s a v q d = subst (SameParts u) (sym d.1) (same_after u s a q)
 
@@ -59,7 +56,7 @@ module _ (program : Program) (source : Data) (h : Heap) (x : World) (N : Named p
   quiet s a v g q d r =
       let same = same_does s a v q d in
       subst (λ k. Named program source k (seen w v x)) (sym r.heap)
-      (kept program source h x N w h x.state x.value (slot_of x) (cargo_of x) v (calm program source h x N w h v (heap_same program source h x N w) (stays_same h) (λ c e. inl (same.2 ∙ e)) (parts_same program source h N.name x.value u v same r.of.threads P)))
+      (calm program source h x N w h v (heap_same program source h x N w) (stays_same h) (λ c e. inl (same.2 ∙ e)) (parts_same program source h N.name x.value u v same r.of.threads (parts program source h x N w)))
 
   plain_world : (s : Step) (a : Answer) (v : View) (g : Heap) → IsPlain s → Named program source g (seen w v x) → Named program source g (world_after x w s a v)
   plain_world (CellStore c Owner n) a v g q K = absurd q
@@ -99,7 +96,7 @@ module _ (program : Program) (source : Data) (h : Heap) (x : World) (N : Named p
   stored_kept m means c n v g stores d r =
       let t = top_is u.threads _ stores in
       subst (λ k. Named program source k (seen w v (record x { value = put x.value c n }))) (sym r.heap)
-      (value_kept program source h x N w T c n v t.0 t.1 t.2 t.3.0 (means.ends t.0 n t.3.1) (ap (λ (y : View). y.names) d.1) r.of.threads (ap (λ (y : View). y.chains) d.1) (ap (λ (y : View). y.child) d.1) (ap (λ (y : View). y.valued) d.1))
+      (value_kept program source h x N w T c n t.0 t.1 t.2 t.3.0 (means.ends t.0 n t.3.1) v (ap (λ (y : View). y.names) d.1) r.of.threads (ap (λ (y : View). y.chains) d.1) (ap (λ (y : View). y.child) d.1) (ap (λ (y : View). y.valued) d.1))
 
   change_kept : (c old new n : ℕ) (v : View) (g : Heap) (b : Bool) → (n == old) ≡ b → Can u (CellChange c old new) → IsKnown x u (CellChange c old new) → n ≡ x.state c → Does u (CellChange c old new) (Number n) v → change_behind program source h b c new u v g → Named program source g (seen w v (record x { state = put_if b x.state c new }))
   change_kept c old new n v g true e can known f d b = state_kept program source h x N w T c old new v (same_does (CellChange c old new) (Number n) v tt d) known.0 known.1 known.2 can.1 (sym f ∙ same_true n old e) (counts_cell (owner_seen c u.owners)) refl g b
@@ -108,18 +105,9 @@ module _ (program : Program) (source : Data) (h : Heap) (x : World) (N : Named p
   printed_kept : (i n : ℕ) (a : Answer) (v : View) (g : Heap) → Does u (OutStore i n) a v → Goes program source h u v (PrintsWord i n) g → Named program source g (seen w v (record x { out = put x.out i n }))
   printed_kept i n a v g d b =
       let o = b.of in
-      let c = o.change in
       let k = o.sort in
-      let K = top_of h x w o.top o.below T o.is in
-      let same = same_does (OutStore i n) a v tt d in
-      let enabled : Enabled h (next_move program source o.top) c = at_once program source h o.top c o.can in
-      let none : (q : Path) (j : ℕ) → c.added ≡ Some (q, j) → ⊥ = λ q j e. let z = k.added in let no : ⊥ = cc in no in
-      let on = heap_goes program source h x N w o.top c T.numbered K.there enabled (λ some. absurd (some k.child)) k.counters (λ q j e. absurd (none q j e)) in
       subst (λ z. Named program source z (seen w v (record x { out = put x.out i n }))) (sym b.heap)
-      (kept program source h x N w (heap_on h o.top c) x.state x.value (slot_of x) (cargo_of x) v (calm program source h x N w (heap_on h o.top c) v on
-      (λ y. stays_of program source h o.top.path o.top.thread c y K.there enabled (inl k.live) (λ q j e. absurd (none q j e)))
-      (λ y e. inl (same.2 ∙ e))
-      (goes_view program source h (heap_on h o.top c) N.name x.value u v o.top o.below c o.is o.threads same enabled k.child k.counters on.grows P)))
+      (item_kept program source h x N w T v o.top o.below o.change o.is o.threads (same_does (OutStore i n) a v tt d) (at_once program source h o.top o.change o.can) k.child k.added k.counters k.live)
 
   take_kept : (slot : Slot) (a : Answer) (v : View) (g : Heap) → Finds x w (SlotTake slot) a → Does u (SlotTake slot) a v → Rests program source h u v g → Named program source g (world_after x w (SlotTake slot) a v)
   unfolding view_after

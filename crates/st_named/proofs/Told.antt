@@ -165,6 +165,3 @@ parts_on program source h h' name name' value value' v extends grows stays P = r
 module _ (program : Program) (source : Data) (h : Heap) (name : ℕ → Option Held) (cell : Held → ℕ) (cargo : Cargo) where
   pub cargo_tells : CargoNames program source h name cell cargo → Tells name cargo.names (cargo.carried.known ∷ [])
   cargo_tells k = record { named = k.names; each = λ t m. ⊎_elim (λ (e : cargo.carried.known ≡ t). subst (IsTold name cargo.names) e (record { note = k.note; knows = k.knows })) (λ (n : Contains [] t). absurd (contains_none t n)) (contains_case t cargo.carried.known [] m) }
-
-  pub tells_cargo : Tells name cargo.names (cargo.carried.known ∷ []) → CargoNames program source h name cell cargo
-  tells_cargo told = let a = told_here name cargo.names cargo.carried.known [] told in record { names = told.named; note = a.note; knows = a.knows }

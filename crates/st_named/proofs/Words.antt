@@ -1,4 +1,4 @@
--- A State word is changed (change_kept) or a Value word stored (value_kept), and an item of the top thread that changes no word (item_kept).
+-- A State word is changed (state_kept) or a Value word stored (value_kept).
 use Rattle.std.proofs.Common.{◌≡◌, ◌≢◌, ◌⊎◌, inl, inr, ⊎_elim, ℕ, suc, ◌+◌, ◌^◌, ◌<◌, Bool, true, false, cond, List, ◌∷◌, ◌++◌, Option, Some, None, refl, sym, ap, ◌∙◌, subst, arith, ◌==◌, eq-eqb}
 use Rattle.std.specs.List.{Contains, filter}
 use Rattle.std.proofs.lemmas.Bool.Decides.{leb_tells}
@@ -31,12 +31,12 @@ use Rattle.st_world.specs.World.{World, slot_of, cargo_of, seen}
 use Rattle.st_world.proofs.Functions.{put_here, put_other}
 use Rattle.st_lists.specs.Laws.{KnowsKind}
 use Rattle.st_threads.specs.Behind.{heap_on, Rests, future_behind, counter_behind, state_behind}
-use Rattle.st_threads.specs.Holding.{Threads}
+use Rattle.st_threads.specs.Holding.{IsOf, Threads}
 use Rattle.st_named.specs.Naming.{OwnerOf, ShowsName, WillEnd, CellHolds, Named}
 use Rattle.st_named.proofs.Heaps.{NameStays, own_after, not_live, count_here, stays_same, stays_of, shows_on}
-use Rattle.st_named.proofs.Told.{Tells, PartsOf, child_cell, told_here, told_rest, parts_on}
+use Rattle.st_named.proofs.Told.{PartsOf, HasStored, child_cell, told_here, told_rest, parts_on}
 use Rattle.st_named.proofs.ViewsAfter.{SameParts}
-use Rattle.st_named.proofs.Keeping.{HeapOn, kept, parts, parts_at, parts_same, slots_same, named_of, heap_same, heap_goes, top_of, goes_view, none_coming}
+use Rattle.st_named.proofs.Keeping.{HeapOn, kept, parts, parts_at, parts_same, slots_same, named_of, heap_same, heap_goes, top_of, told_top, goes_view, none_coming}
 
 -- ---- words
 
@@ -70,39 +70,51 @@ module _ (program : Program) (source : Data) (h : Heap) (x : World) (N : Named p
   P = parts program source h x N w
 
   note : (top : Known) (below : List Known) → u.threads ≡ top ∷ below → N.name top.note.cell ≡ Some (Future top.path)
-  note top below is = (told_here N.name u.names top (below ++ known_of u.chains) (subst (λ l. Tells N.name u.names (l ++ known_of u.chains)) is P.told)).note
+  note top below is = (told_here N.name u.names top (below ++ known_of u.chains) (told_top program source h N.name x.value u top below is P)).note
 
   -- ---- a Value word is stored: that with which the top thread ends
 
-  pub value_kept : (c n : ℕ) (v : View) (top : Known) (below : List Known) → u.threads ≡ top ∷ below → top.note.cell ≡ c → EndsWith program source top n → v.names ≡ u.names → v.threads ≡ u.threads → v.chains ≡ u.chains → v.child ≡ u.child → v.valued ≡ (c, n) ∷ filter (other_cell c) u.valued → Named program source h (seen w v (record x { value = put x.value c n }))
-  value_kept c n v top below is at ends names threads chains child valued =
-      let K = top_of h x w top below T is in
-      let name : N.name c ≡ Some (Future top.path) = subst (λ d. N.name d ≡ Some (Future top.path)) at (note top below is) in
-      let own : (d : ℕ) (p : Path) → d ≡ c → N.name d ≡ Some (Future p) → p ≡ top.path = λ d p e f. let g : N.name d ≡ Some (Future top.path) = ap N.name e ∙ name in cc in
-      let dead : (m : ℕ) → HasEnded h top.path m → ⊥ = λ m e. not_live top.thread.standing m (ap (λ (t : Thread). t.standing) (same_thread h top.path top.thread e.0 K.there e.1) ∙ e.2) K.live in
-      let stays : (d m : ℕ) (p : Path) → N.name d ≡ Some (Future p) → WillEnd program source h p m → x.value d ≡ m → put x.value c n d ≡ m = λ d m p e f z. dite (ℕ_discrete d c)
-      (λ (s : d ≡ c). ap (put x.value c n) s ∙ (put_here x.value c n ∙ sym (one_will program source h top.path top.thread m n K.there K.live ends (subst (λ q. WillEnd program source h q m) (own d p s e) f))))
-      (λ (ne : d ≢ c). put_other x.value c n d ne ∙ z) in
-      kept program source h x N w h x.state (put x.value c n) (slot_of x) (cargo_of x) v (record {
-        heap = heap_same program source h x N w;
-        empty = λ d e z. z;
-        shows = λ d k e s. dite (ℕ_discrete d c)
-            (λ (q : d ≡ c).
-            let f : Future top.path ≡ k = (let g : N.name d ≡ Some (Future top.path) = ap N.name q ∙ name in cc) in
-            let r : ShowsName h (x.state d) (x.value d) (Future top.path) = subst (ShowsName h (x.state d) (x.value d)) (sym f) s in
-            subst (ShowsName h (x.state d) (put x.value c n d)) f (record { full = λ z. absurd (dead (x.value d) (r.full z)); ended = r.ended }))
-            (λ (ne : d ≢ c). subst (λ z. ShowsName h (x.state d) z k) (sym (put_other x.value c n d ne)) s);
-        stays = stays;
-        coming = λ d e. inl (ap child_cell child ∙ e);
-        view = parts_at program source h N.name (put x.value c n) v u.names u.threads (known_of u.chains) (child_cell u.child) ((c, n) ∷ filter (other_cell c) u.valued) names threads (ap known_of chains) (ap child_cell child) valued (record {
-          told = P.told;
-          coming = P.coming;
-          stored = λ d m i. ⊎_elim {A = (c, n) ≡ (d, m)}
-              (λ (e : (c, n) ≡ (d, m)). subst (λ (y : ℕ × ℕ). (p : Path) × (N.name y.0 ≡ Some (Future p)) × WillEnd program source h p y.1 × (put x.value c n y.0 ≡ y.1)) e (top.path, name, inr (top.thread, K.there, ends), put_here x.value c n))
-              (λ (k : Contains (filter (other_cell c) u.valued) (d, m)). let a = P.stored d m (filter_out (other_cell c) u.valued (d, m) k).0 in (a.0, a.1, a.2, stays d m a.0 a.1 a.2 a.3)) (contains_case (d, m) (c, n) (filter (other_cell c) u.valued) i);
-        });
-        slots = slots_same program source h x N w h;
-      })
+  module _ (c n : ℕ) (top : Known) (below : List Known) (is : u.threads ≡ top ∷ below) (at : top.note.cell ≡ c) (ends : EndsWith program source top n) where
+    K : IsOf h top
+    K = top_of h x w top below T is
+
+    named : (d : ℕ) → d ≡ c → N.name d ≡ Some (Future top.path)
+    named d e = ap N.name (e ∙ sym at) ∙ note top below is
+
+    dead : (m : ℕ) → HasEnded h top.path m → ⊥
+    dead m e = not_live top.thread.standing m (ap (λ (t : Thread). t.standing) (same_thread h top.path top.thread e.0 K.there e.1) ∙ e.2) K.live
+
+    -- whoever stored it stored this value
+    value_stays : (d m : ℕ) (p : Path) → N.name d ≡ Some (Future p) → WillEnd program source h p m → x.value d ≡ m → put x.value c n d ≡ m
+    value_stays d m p e f z = dite (ℕ_discrete d c)
+        (λ (s : d ≡ c).
+        let own : p ≡ top.path = (let g = named d s in cc) in
+        ap (put x.value c n) s ∙ (put_here x.value c n ∙ sym (one_will program source h top.path top.thread m n K.there K.live ends (subst (λ q. WillEnd program source h q m) own f))))
+        (λ (ne : d ≢ c). put_other x.value c n d ne ∙ z)
+
+    value_shows : (d : ℕ) (k : Held) → N.name d ≡ Some k → ShowsName h (x.state d) (x.value d) k → ShowsName h (x.state d) (put x.value c n d) k
+    value_shows d k e s = dite (ℕ_discrete d c)
+        (λ (q : d ≡ c).
+        let f : Future top.path ≡ k = (let g = named d q in cc) in
+        let r : ShowsName h (x.state d) (x.value d) (Future top.path) = subst (ShowsName h (x.state d) (x.value d)) (sym f) s in
+        subst (ShowsName h (x.state d) (put x.value c n d)) f (record { full = λ z. absurd (dead (x.value d) (r.full z)); ended = r.ended }))
+        (λ (ne : d ≢ c). subst (λ z. ShowsName h (x.state d) z k) (sym (put_other x.value c n d ne)) s)
+
+    value_stored : HasStored program source h N.name (put x.value c n) ((c, n) ∷ filter (other_cell c) u.valued)
+    value_stored d m i = ⊎_elim
+        (λ (e : (c, n) ≡ (d, m)). (top.path, named d (ap (λ (y : ℕ × ℕ). y.0) (sym e)), inr (top.thread, K.there, subst (λ k. EndsWith program source top k) (ap (λ (y : ℕ × ℕ). y.1) e) ends), ap (put x.value c n) (ap (λ (y : ℕ × ℕ). y.0) (sym e)) ∙ (put_here x.value c n ∙ ap (λ (y : ℕ × ℕ). y.1) e)))
+        (λ (k : Contains (filter (other_cell c) u.valued) (d, m)). let a = P.stored d m (filter_out (other_cell c) u.valued (d, m) k).0 in (a.0, a.1, a.2, value_stays d m a.0 a.1 a.2 a.3)) (contains_case (d, m) (c, n) (filter (other_cell c) u.valued) i)
+
+    pub value_kept : (v : View) → v.names ≡ u.names → v.threads ≡ u.threads → v.chains ≡ u.chains → v.child ≡ u.child → v.valued ≡ (c, n) ∷ filter (other_cell c) u.valued → Named program source h (seen w v (record x { value = put x.value c n }))
+    value_kept v names threads chains child valued = kept program source h x N w h x.state (put x.value c n) (slot_of x) (cargo_of x) v (record {
+      heap = heap_same program source h x N w;
+      empty = λ d e z. z;
+      shows = value_shows;
+      stays = value_stays;
+      coming = λ d e. inl (ap child_cell child ∙ e);
+      view = parts_at program source h N.name (put x.value c n) v u.names u.threads (known_of u.chains) (child_cell u.child) ((c, n) ∷ filter (other_cell c) u.valued) names threads (ap known_of chains) (ap child_cell child) valued (record { told = P.told; coming = P.coming; stored = value_stored });
+      slots = slots_same program source h x N w h;
+    })
 
   -- ---- a State word is changed
 
@@ -189,7 +201,7 @@ module _ (program : Program) (source : Data) (h : Heap) (x : World) (N : Named p
         (record { full = λ z. (change.own, own_after h top.path top.thread change, ap Ended (sym (P.stored c o.value o.stored).3)); ended = λ m z. same_true new full_word eq })
         (λ k ne. stays_of program source h top.path top.thread change k K.there enabled (inr ne) (λ q i z. absurd (none q i z)))
         (parts_at program source (heap_on h top change) N.name x.value v u.names o.below turn (child_cell u.child) u.valued same.0 o.threads same.1 same.2 same.3 (record {
-          told = told_rest N.name u.names top (o.below ++ turn) (subst (λ l. Tells N.name u.names (l ++ turn)) o.is P.told);
+          told = told_rest N.name u.names top (o.below ++ turn) (told_top program source h N.name x.value u top o.below o.is P);
           coming = λ d z. absurd (none_coming program source h N.name x.value u top o.below change o.is enabled refl P d z);
           stored = (parts_on program source h (heap_on h top change) N.name N.name x.value x.value u (λ d k z. z) on.grows (λ d k p z r s. s) P).stored;
         })))

@@ -44,6 +44,7 @@ use Rattle.st_rule.specs.Laws.{RuleLaws}
 use Rattle.st_rule.proofs.Groups.{Groups}
 use Rattle.st_rule.proofs.Kept.{rule_kept}
 use Rattle.st_rule.proofs.Moves.{moves_kept}
+use Rattle.st_rule.proofs.Settled.{rule_settles}
 use Rattle.st_rule.proofs.Told.{rule_told, rule_comes}
 use Rattle.st_rule.proofs.Tidy.{rule_tidy}
 use Rattle.st_rule.proofs.Opened.{rule_opened, rule_rests}
@@ -105,6 +106,7 @@ pub rule_laws : (m : Meaning) → RuleLaws m
 rule_laws m = record {
   kept = λ program source limits. rule_kept m (groups m) program source limits;
   moves = λ program source limits. moves_kept m (groups m) program source limits;
+  settles = λ program source limits. rule_settles m program source limits (moves_kept m (groups m) program source limits);
   told = λ program source limits. rule_told m (groups m) program source limits;
   tidy = λ program source limits. rule_tidy m (groups m) program source limits;
   comes = λ program source limits. rule_comes m (groups m) program source limits;

@@ -6,5 +6,6 @@ pub mod Kept
 pub mod Moves
 pub mod Told
 pub mod Tidy
+pub mod Settled
 pub mod Opened
 pub mod Filled

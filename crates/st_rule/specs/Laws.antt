@@ -1,7 +1,7 @@
 -- The laws of the rule. Read RuleKept (each careful step, with the item that goes with it, keeps the rule, of a heap to which the item leads), RuleMoves (so does all that a worker does
--- between steps), RuleTold, RuleComes and RuleTidy (what the answers promise, what a chain that is taken stands for, and what is always so of a view),
+-- between steps, one worker or all of them: RuleSettles), RuleTold, RuleComes and RuleTidy (what the answers promise, what a chain that is taken stands for, and what is always so of a view),
 -- RuleRests (what it means that nothing is active) and RuleOpened.
-use Rattle.std.specs.Prelude.{◌≡◌, ◌⊎◌, ℕ, ◌/◌, ◌≤◌, ◌<◌, List, Some, None}
+use Rattle.std.specs.Prelude.{◌≡◌, ◌⊎◌, ℕ, ◌/◌, ◌≤◌, ◌<◌, nat_lt, if◌then◌else◌, List, Some, None}
 use Rattle.st_base.specs.declared.chain.Chain.{Chain}
 use Rattle.st_base.specs.declared.limits.Limits.{Limits}
 use Rattle.st_words.specs.declared.view.Slot.{Slot}
@@ -47,6 +47,13 @@ module _ (m : Meaning) (program : Program) (source : Data) (limits : Limits) whe
   abbrev pub RuleMoves : Type 0
   RuleMoves = (h0 h : Heap) (x : World) (w : ℕ) (u : View) → Rule m program source limits h0 h x → w < x.workers → Made program source (x.view w) u → RunOn h0 h (seen w u x)
 
+  -- so does what all workers do by themselves, each since its last step: the workers are read as settled
+  abbrev pub settled : (ℕ → View) → World → World
+  settled own x = record x { view = λ w. if nat_lt w x.workers then own w else x.view w }
+
+  abbrev pub RuleSettles : Type 0
+  RuleSettles = (h0 h : Heap) (x : World) (own : ℕ → View) → Rule m program source limits h0 h x → ((w : ℕ) → w < x.workers → Made program source (x.view w) (own w)) → RunOn h0 h (settled own x)
+
   -- ---- what follows
 
   abbrev pub RuleTold : Type 0
@@ -76,6 +83,7 @@ module _ (m : Meaning) (program : Program) (source : Data) (limits : Limits) whe
 pub record RuleLaws (m : Meaning) : Type 0 where
   pub kept : (program : Program) (source : Data) (limits : Limits) → RuleKept m program source limits
   pub moves : (program : Program) (source : Data) (limits : Limits) → RuleMoves m program source limits
+  pub settles : (program : Program) (source : Data) (limits : Limits) → RuleSettles m program source limits
   pub told : (program : Program) (source : Data) (limits : Limits) → RuleTold m program source limits
   pub tidy : (program : Program) (source : Data) (limits : Limits) → RuleTidy m program source limits
   pub comes : (program : Program) (source : Data) (limits : Limits) → RuleComes m program source limits
