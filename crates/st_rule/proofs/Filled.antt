@@ -12,7 +12,7 @@ use Rattle.st_places.proofs.Told.{told_laws as places_told}
 use Rattle.st_places.proofs.Rested.{rest_laws}
 use Rattle.st_places.proofs.Firsts.{first_places}
 use Rattle.st_leases.proofs.Steps.{step_kept as leases_kept}
-use Rattle.st_leases.proofs.Follows.{move_laws as leases_moves, told_laws as leases_told}
+use Rattle.st_leases.proofs.Follows.{held_laws, move_laws as leases_moves, told_laws as leases_told}
 use Rattle.st_leases.proofs.Firsts.{first_leases}
 use Rattle.st_requests.proofs.Steps.{step_kept as requests_kept}
 use Rattle.st_requests.proofs.Follows.{move_laws as requests_moves, slot_laws as mail_laws, told_laws as requests_told}
@@ -47,6 +47,7 @@ use Rattle.st_rule.proofs.Moves.{moves_kept}
 use Rattle.st_rule.proofs.Settled.{rule_settles}
 use Rattle.st_rule.proofs.Told.{rule_told, rule_comes}
 use Rattle.st_rule.proofs.Tidy.{rule_tidy}
+use Rattle.st_rule.proofs.Following.{rule_follows, fills_once}
 use Rattle.st_rule.proofs.Opened.{rule_opened, rule_rests}
 
 groups : (m : Meaning) → Groups m
@@ -64,6 +65,7 @@ groups m = record {
   places_first = first_places;
   leases_kept = leases_kept;
   leases_moves = leases_moves;
+  held = held_laws;
   leases_told = leases_told;
   leases_first = first_leases;
   requests_kept = requests_kept;
@@ -110,6 +112,8 @@ rule_laws m = record {
   told = λ program source limits. rule_told m (groups m) program source limits;
   tidy = λ program source limits. rule_tidy m (groups m) program source limits;
   comes = λ program source limits. rule_comes m (groups m) program source limits;
+  follows = λ program source limits. rule_follows m (groups m) program source limits;
+  fills_once = λ program source limits. fills_once m (groups m) program source limits;
   rests = λ program source limits. rule_rests m (groups m) program source limits;
   opened = λ program source limits. rule_opened m (groups m) program source limits;
 }

@@ -2,7 +2,7 @@
 use Rattle.st_words.specs.Careful.{Meaning}
 use Rattle.st_lists.specs.Laws.{Kept as ListsKept, MoveLaws as ListsMoves, ViewLaws as ListsView, ToldLaws as ListsTold, First as ListsFirst}
 use Rattle.st_places.specs.Laws.{Kept as PlacesKept, MoveLaws as PlacesMoves, SlotLaws, ToldLaws as PlacesTold, RestLaws, First as PlacesFirst}
-use Rattle.st_leases.specs.Laws.{Kept as LeasesKept, MoveLaws as LeasesMoves, ToldLaws as LeasesTold, First as LeasesFirst}
+use Rattle.st_leases.specs.Laws.{Kept as LeasesKept, MoveLaws as LeasesMoves, HeldLaws, ToldLaws as LeasesTold, First as LeasesFirst}
 use Rattle.st_requests.specs.Laws.{Kept as RequestsKept, MoveLaws as RequestsMoves, SlotLaws as MailLaws, ToldLaws as RequestsTold, First as RequestsFirst}
 use Rattle.st_counts.specs.Laws.{Kept as CountsKept, MoveLaws as CountsMoves, ToldLaws as CountsTold, NoneLaws, First as CountsFirst}
 use Rattle.st_draws.specs.Laws.{Kept as DrawsKept, MoveLaws as DrawsMoves, ToldLaws as DrawsTold, First as DrawsFirst}
@@ -26,6 +26,7 @@ pub record Groups (m : Meaning) : Type 0 where
   pub places_first : PlacesFirst
   pub leases_kept : LeasesKept
   pub leases_moves : LeasesMoves
+  pub held : HeldLaws
   pub leases_told : LeasesTold
   pub leases_first : LeasesFirst
   pub requests_kept : RequestsKept

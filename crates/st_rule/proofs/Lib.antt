@@ -7,5 +7,6 @@ pub mod Moves
 pub mod Told
 pub mod Tidy
 pub mod Settled
+pub mod Following
 pub mod Opened
 pub mod Filled
