@@ -1,7 +1,5 @@
 -- Steps that change nothing that the places read but where numbers are: calm_kept. passes is what a number that passes leaves of its cell.
-
-use Rattle.std.proofs.Common.{◌≡◌, ◌≢◌, ◌⊎◌, inl, inr, ⊎_elim, ℕ, zero, suc, Bool, List, Some, None, refl, sym, ap, ◌∙◌, subst, ◌==◌, ne_eqb}
-use Rattle.std.specs.List.{Contains}
+use Rattle.std.proofs.Common.{◌≡◌, ◌≢◌, inl, inr, ⊎_elim, ℕ, zero, suc, Bool, Some, None, sym, ap, ◌∙◌, subst, ◌==◌, ne_eqb}
 use Rattle.std.specs.Int.{from_bool}
 use mathlib.Core.Logic.{dite}
 use native.Mathlib.Decide.{ℕ_discrete}
@@ -16,21 +14,17 @@ use Rattle.st_world.specs.World.{World, seen, Finds, world_after}
 use Rattle.st_world.proofs.Functions.{put_here, put_other}
 use Rattle.st_lists.specs.Listing.{Spot, Nowhere, Rooted, Lists}
 use Rattle.st_lists.specs.Going.{IsQueued, Passes, GoesRooted, Goes}
-use Rattle.st_places.specs.Placing.{Home, InTurn, Places, cells_of, chain_cells}
-use Rattle.st_places.proofs.MovedLists.{map_out}
-use Rattle.st_places.proofs.Seats.{Placed, at_place, some_spot, rooted_home}
-use Rattle.st_places.proofs.ChangedViews.{SameParts, IsCalm, same_after}
-use Rattle.st_places.proofs.Changed.{Kin, all_stay}
+use Rattle.st_seats.specs.Placing.{Home, InTurn, Places, cells_of}
+use Rattle.st_seats.proofs.MovedLists.{map_out}
+use Rattle.st_seats.proofs.Seats.{Placed, at_place, some_spot, rooted_home}
+use Rattle.st_seats.proofs.Changed.{NumbersStay, calm}
+use Rattle.st_places.proofs.ChangedViews.{IsCalm, same_after}
 
 module _ (x : World) (l : Lists x) (P : Places x l) (w : ℕ) where
-  -- the number stays, or goes from list or hand to list or hand, and the chain is in its slot
-  abbrev pub NumbersStay : (ℕ → Spot) → (ℕ → Waiting) → Type 0
-  NumbersStay spot' wait' = ((d : ℕ) → (spot' d ≡ l.spot d) ⊎ ((P.place d ≡ Home) × Kin (l.spot d) (spot' d))) × ((d : ℕ) → wait' d ≡ l.wait d)
-
   some_queued : (s : Spot) → IsQueued s → s ≢ Nowhere
   some_queued s q e = subst IsQueued e q
 
-  pub passes : (spot' : ℕ → Spot) (wait' : ℕ → Waiting) → Passes l.spot l.wait spot' wait' w (x.view w) → NumbersStay spot' wait'
+  pub passes : (spot' : ℕ → Spot) (wait' : ℕ → Waiting) → Passes l.spot l.wait spot' wait' w (x.view w) → NumbersStay P.place l.spot l.wait spot' wait'
   passes spot' wait' g = (
     λ d. ⊎_elim (λ e. inl e) (λ q. inr (
       ⊎_elim (λ h. h) (λ r.
@@ -43,7 +37,7 @@ module _ (x : World) (l : Lists x) (P : Places x l) (w : ℕ) where
     g.1,
   )
 
-  rooted : (n : ℕ) (spot' : ℕ → Spot) (wait' : ℕ → Waiting) → n ≡ from_bool (x.root == 1) → GoesRooted l.spot l.wait spot' wait' w n → NumbersStay spot' wait'
+  rooted : (n : ℕ) (spot' : ℕ → Spot) (wait' : ℕ → Waiting) → n ≡ from_bool (x.root == 1) → GoesRooted l.spot l.wait spot' wait' w n → NumbersStay P.place l.spot l.wait spot' wait'
   rooted zero spot' wait' f g = (λ d. inl (g.0 d), g.1)
   rooted (suc n) spot' wait' f g =
       let is : x.root ≡ 1 = dite (ℕ_discrete x.root 1) (λ (e : x.root ≡ 1). e) (λ (d : x.root ≢ 1). let e = f ∙ ap (λ (b : Bool). from_bool b) (ne_eqb x.root 1 d) in let no : ⊥ = cc in absurd no) in
@@ -54,7 +48,7 @@ module _ (x : World) (l : Lists x) (P : Places x l) (w : ℕ) where
         g.1,
       )
 
-  stay_numbers : (s : Step) (a : Answer) (spot' : ℕ → Spot) (wait' : ℕ → Waiting) → IsCalm s → Finds x w s a → Goes l.spot l.wait spot' wait' w (x.view w) s a → NumbersStay spot' wait'
+  stay_numbers : (s : Step) (a : Answer) (spot' : ℕ → Spot) (wait' : ℕ → Waiting) → IsCalm s → Finds x w s a → Goes l.spot l.wait spot' wait' w (x.view w) s a → NumbersStay P.place l.spot l.wait spot' wait'
   stay_numbers (CellLoad c Next) a spot' wait' q f g = passes spot' wait' g
   stay_numbers RootTake (Number n) spot' wait' q f g = rooted n spot' wait' f g
   stay_numbers (CellStore c Owner n) a spot' wait' q f g = absurd q
@@ -65,23 +59,6 @@ module _ (x : World) (l : Lists x) (P : Places x l) (w : ℕ) where
   stay_numbers (SlotTake slot) a spot' wait' q f g = absurd q
   stay_numbers (SlotPut slot chain cargo) a spot' wait' q f g = absurd q
   stay_numbers s a spot' wait' q f g = (λ d. inl (g.0 d), g.1)
-
-  -- the words and slots are as they were
-  pub calm : (v : View) (spot' : ℕ → Spot) (wait' : ℕ → Waiting) → SameParts (x.view w) v → cells_of v.threads ≡ cells_of (x.view w).threads → NumbersStay spot' wait' → Placed (seen w v x) spot' wait'
-  calm v spot' wait' same threads g = all_stay x l.spot l.wait P w x v spot' wait' P.place refl (λ k h. h) (λ d. record {
-    there = refl;
-    number = g.0 d;
-    waits = g.1 d;
-    of = λ t. record { below = t.below; named = t.named; future = t.future; unfilled = t.unfilled };
-    standing = refl;
-    trap = refl;
-    home = refl;
-    cargo = refl;
-    mail = λ u chain e f. e;
-    turn = subst (λ (zs : List Carried). Contains (chain_cells zs) d) (sym same.0);
-    stack = subst (λ (cs : List ℕ). Contains cs d) (sym threads);
-    child = λ h. (h.0, same.1 ∙ h.1, h.2);
-  }) (λ u. refl) (λ u. refl) same threads
 
   calm_world : (v : View) (s : Step) (a : Answer) (spot' : ℕ → Spot) (wait' : ℕ → Waiting) → IsCalm s → Placed (seen w v x) spot' wait' → Placed (world_after x w s a v) spot' wait'
   calm_world v (CellStore c Owner n) a spot' wait' q h = absurd q
@@ -98,4 +75,4 @@ module _ (x : World) (l : Lists x) (P : Places x l) (w : ℕ) where
   calm_world v s a spot' wait' q h = h
 
   pub calm_kept : (s : Step) (a : Answer) (pr : Progress) (spot' : ℕ → Spot) (wait' : ℕ → Waiting) → IsCalm s → Finds x w s a → cells_of pr.threads ≡ cells_of (x.view w).threads → Goes l.spot l.wait spot' wait' w (x.view w) s a → Placed (world_after x w s a (with_progress pr (view_after (x.view w) s a))) spot' wait'
-  calm_kept s a pr spot' wait' q f threads g = calm_world (with_progress pr (view_after (x.view w) s a)) s a spot' wait' q (calm (with_progress pr (view_after (x.view w) s a)) spot' wait' (same_after (x.view w) s a q) threads (stay_numbers s a spot' wait' q f g))
+  calm_kept s a pr spot' wait' q f threads g = calm_world (with_progress pr (view_after (x.view w) s a)) s a spot' wait' q (calm x l.spot l.wait P w (with_progress pr (view_after (x.view w) s a)) spot' wait' (same_after (x.view w) s a q) threads (stay_numbers s a spot' wait' q f g))

@@ -18,11 +18,9 @@ use Rattle.st_world.specs.World.{World, seen}
 use Rattle.st_world.proofs.Functions.{put_here, put_other}
 use Rattle.st_lists.specs.Listing.{Spot, Lists, counters}
 use Rattle.st_lists.specs.Going.{Stays}
-use Rattle.st_places.specs.Placing.{Place, Gone, Named, InTurn, OnStack, Places, AreOnce, cells_of}
-use Rattle.st_places.proofs.Seats.{Of, Placed, Holds, ThreadAt, at_place}
-use Rattle.st_places.proofs.Changed as changed
-use Rattle.st_places.proofs.MovedPlaces.{Begins}
-use Rattle.st_places.proofs.Changed.{StaysOver, One, thread_same, all_stay, one_kept, one_mail, apart}
+use Rattle.st_seats.specs.Placing.{Place, Gone, Named, InTurn, OnStack, Places, AreOnce, cells_of}
+use Rattle.st_seats.proofs.Seats.{Of, Placed, Holds, ThreadAt, at_place, Begins}
+use Rattle.st_seats.proofs.Changed.{StaysOver, One, thread_same, one_kept, one_mail, apart, cell_stays, same_kept}
 use Rattle.st_places.proofs.ChangedWords.{place_gone}
 
 top_is : (ts : List Known) (Q : Known → Type 0) → TopIs ts Q → (t : Known) × Q t
@@ -46,35 +44,20 @@ module _ (x : World) (l : Lists x) (P : Places x l) (w : ℕ) (less : w < x.work
   other_owner d m = ap is_counter (sym (put_other x.owner c n d m))
 
   still_over : StaysOver x named
-  still_over waits.Start h = h
-  still_over waits.Ready h = h
-  still_over waits.Trapped h = h
   still_over (waits.Touch e) h = dite (ℕ_discrete e c)
       (λ (s : e ≡ c). let a = ap x.state s in let b = h.1 in let no : ⊥ = omega (arith, a, b, empty) in absurd no)
       (λ (m : e ≢ c). (sym (other_owner e m) ∙ h.0, h.1))
   still_over (waits.Join e least) h = dite (ℕ_discrete e c)
       (λ (s : e ≡ c). let a = ap is_counter (ap x.owner s ∙ unnamed) in let b = h.0 in let no : ⊥ = cc in absurd no)
       (λ (m : e ≢ c). (sym (other_owner e m) ∙ h.0, h.1))
+  still_over k h = h
 
   still_thread : (v : View) (place' : ℕ → Place) (d : ℕ) → ThreadAt x l.spot l.wait P.place d → ThreadAt (seen w v named) spot' wait' place' d
   still_thread v place' d t = thread_same x l.spot l.wait P w named v spot' wait' place' d refl (put_other x.owner c n d (λ z. t.named (ap x.owner z ∙ unnamed))) refl t
 
   -- a counter has no thread
   counter_kept : Placed (seen w (named_view true) named) spot' wait'
-  counter_kept = all_stay x l.spot l.wait P w named (named_view true) spot' wait' P.place refl still_over (λ d. record {
-    there = refl;
-    number = inl (g.0 d);
-    waits = g.1 d;
-    of = still_thread (named_view true) P.place d;
-    standing = refl;
-    trap = refl;
-    home = refl;
-    cargo = refl;
-    mail = λ k chain e f. e;
-    turn = λ m. m;
-    stack = subst (λ (ds : List ℕ). Contains ds d) (sym same);
-    child = λ h. h;
-  }) (λ k. refl) (λ k. refl) (refl, refl, refl) same
+  counter_kept = same_kept x l.spot l.wait P w (put x.owner c n) x.state (named_view true) spot' wait' still_over (still_thread (named_view true) P.place) (refl, refl, refl) same (λ d. inl (g.0 d), g.1)
 
   abbrev place' : ℕ → Place
   place' = put P.place c (Named w)
@@ -83,23 +66,9 @@ module _ (x : World) (l : Lists x) (P : Places x l) (w : ℕ) (less : w < x.work
   child_kept kind some none =
       let V = P.views w in
       let v : View = named_view false in
-      let stays : (d : ℕ) → d ≢ c → changed.Stays x l.spot l.wait P w named v spot' wait' place' d = λ d m. record {
-        there = put_other P.place c (Named w) d m;
-        number = inl (g.0 d);
-        waits = g.1 d;
-        of = still_thread v place' d;
-        standing = refl;
-        trap = refl;
-        home = refl;
-        cargo = refl;
-        mail = λ k chain e f. e;
-        turn = λ q. q;
-        stack = subst (λ (ds : List ℕ). Contains ds d) (sym same);
-        child = λ h. let e = h.1 in let no : ⊥ = cc in absurd no;
-      } in
       let h = at_place x l.spot l.wait P c Gone gone in
       let O : One x l.spot l.wait P w named v spot' wait' place' c = record {
-        others = stays;
+        others = λ d m. cell_stays x l.spot l.wait P w (put x.owner c n) x.state v spot' wait' place' d (put_other P.place c (Named w) d m) (λ e. inl (g.0 e), g.1) (still_thread v place' d) (λ q. q) (subst (λ (ds : List ℕ). Contains ds d) (sym same)) (λ h. let e = h.1 in let no : ⊥ = cc in absurd no);
         mine = λ k o. absurd (subst (Of k) gone o);
         here = subst (Holds (seen w v named) spot' wait' place' c) (sym (put_here P.place c (Named w))) (
           h.0,
@@ -109,7 +78,7 @@ module _ (x : World) (l : Lists x) (P : Places x l) (w : ℕ) (less : w < x.work
           less,
         );
         turn = λ z m. inl (m, apart P.place c z.known.note.cell Gone (InTurn w) gone (V.turn z m).there (λ q. let no : ⊥ = cc in no));
-        stack = λ d m. let k = subst (λ (ds : List ℕ). Contains ds d) same m in (k, apart P.place c d Gone (OnStack w) gone (V.stack d k).there (λ q. let no : ⊥ = cc in no));
+        stack = λ d m. let k = subst (λ (ds : List ℕ). Contains ds d) same m in inl (k, apart P.place c d Gone (OnStack w) gone (V.stack d k).there (λ q. let no : ⊥ = cc in no));
         child = λ z e. inr (subst (Begins (seen w v named) spot' wait' place' w) (one_child z e) (record { there = put_here P.place c (Named w); stands = λ q. let no : ⊥ = cc in absurd no }));
         chains_once = V.chains_once;
         threads_once = subst AreOnce (sym same) V.threads_once;

@@ -21,18 +21,15 @@ use Rattle.st_world.specs.World.{World, seen, with_chain}
 use Rattle.st_world.proofs.Functions.{put_here, put_other}
 use Rattle.st_lists.specs.Listing.{Spot, Nowhere, Held, Lists, counters}
 use Rattle.st_lists.specs.Going.{Stays, ComesInto, GoesPut}
-use Rattle.st_places.specs.Placing.{Place, Home, InMail, InTurn, IsOver, Rests, WaitsFor, IsTurnSpot, Places, cells_of}
-use Rattle.st_places.proofs.MovedLists.{filter_numbers, filter_rest, filter_once}
-use Rattle.st_places.proofs.Seats.{Of, Placed, HoldsHome, at_place, turn_there, turn_spot}
-use Rattle.st_places.proofs.MovedPlaces.{MailAt}
-use Rattle.st_places.proofs.ChangedSlots.{Slotted, slotted_kept, slot_mail}
+use Rattle.st_seats.specs.Placing.{Place, Home, InMail, InTurn, IsOver, Rests, WaitsFor, IsTurnSpot, Places, cells_of}
+use Rattle.st_seats.proofs.MovedLists.{filter_numbers, filter_rest, filter_once}
+use Rattle.st_seats.proofs.Seats.{Of, Placed, HoldsHome, at_place, turn_there, turn_spot, MailAt}
+use Rattle.st_seats.proofs.ChangedSlots.{Slotted, slotted_kept, slot_mail}
 
 waiting_word : (k : Waiting) (n : ℕ) → IsWaiting k → standing_of k ≡ Some n → n ≡ waits_word
 waiting_word (waits.Touch f) n i e = cc
 waiting_word (waits.Join f least) n i e = cc
-waiting_word waits.Start n i e = absurd i
-waiting_word waits.Ready n i e = absurd i
-waiting_word waits.Trapped n i e = absurd i
+waiting_word k n i e = absurd i
 
 -- how a chain rests that is put, and where the numbers of others are
 abbrev RestsPut : (Waiting → Type 0) → (ℕ → Spot) → (ℕ → Waiting) → (ℕ → Spot) → (ℕ → Waiting) → ℕ → Waiting → ℕ → Type 0

@@ -20,14 +20,12 @@ use Rattle.st_world.specs.World.{World, seen, waking}
 use Rattle.st_world.proofs.Functions.{put_here, put_other}
 use Rattle.st_lists.specs.Listing.{Spot, Nowhere, Held, Readied, Lists, counters}
 use Rattle.st_lists.specs.Going.{Stays, GoesReady}
-use Rattle.st_places.specs.Placing.{Place, Gone, Named, Home, IsOver, Rests, WaitsFor, IsTurnSpot, Places, cells_of, chain_cells}
-use Rattle.st_places.specs.Placing as placing
+use Rattle.st_seats.specs.Placing.{Place, Gone, Named, Home, IsOver, Rests, WaitsFor, IsTurnSpot, Places, cells_of, chain_cells}
+use Rattle.st_seats.specs.Placing as placing
 use Rattle.st_places.specs.Steps.{IsKnown}
-use Rattle.st_places.proofs.MovedLists.{map_only}
-use Rattle.st_places.proofs.Seats.{Placed, Holds, HoldsHome, ThreadAt, turn_there, turn_spot, child_there, held_home, in_slot}
-use Rattle.st_places.proofs.ChangedChains.{made_cells}
-use Rattle.st_places.proofs.MovedPlaces.{Turn}
-use Rattle.st_places.proofs.ChangedWords.{IsSeat, place_gone, anew_kept}
+use Rattle.st_seats.proofs.MovedLists.{map_only}
+use Rattle.st_seats.proofs.Seats.{Placed, Holds, HoldsHome, ThreadAt, turn_there, turn_spot, child_there, held_home, in_slot, Turn}
+use Rattle.st_places.proofs.ChangedWords.{made_cells, IsSeat, place_gone, anew_kept}
 
 -- ---- children
 
@@ -152,8 +150,7 @@ module _ (x : World) (l : Lists x) (P : Places x l) (w : ℕ) (pr : Progress) (s
       here_still (Named k) s d h = (h.0, g.0 c ∙ h.1, thread_now h.2, subst (λ (y : View). IsChild y c) (sym (ap (put x.view w (stood_view false r)) s ∙ put_here x.view w (stood_view false r))) (still_child false r x.home_cargo c (subst (λ (j : ℕ). IsChild (x.view j) c) s h.3)), h.4)
       here_still (placing.InTurn k) s d h = (h.0, thread_now h.1, subst (λ (y : View). Contains (chain_cells y.chains) c) (sym (ap (put x.view w (stood_view false r)) s ∙ put_here x.view w (stood_view false r))) (still_turn false r x.home_cargo (subst (λ (j : ℕ). Contains (chain_cells (x.view j).chains) c) s h.2)), h.3)
       here_still Home s d h = absurd (d refl)
-      here_still (placing.InMail k) s d h = absurd s
-      here_still (placing.OnStack k) s d h = absurd s
+      here_still p s d h = absurd s
 
       still_kept : IsSeat w (P.place c) → P.place c ≢ Home → ((z : Carried) → Contains u.chains z → z.known.note.cell ≡ c → (z.standing ≢ Some waits_word) × (IsGoingOn (stand z) → IsGoingOn z)) → (n ≡ running) ⊎ (P.place c ≢ Named w) → Placed after spot' wait'
       still_kept seat away goes runs = stood_kept false r x.home_cargo (λ d m. (g.0 d, refl)) g.1 seat (here_still (P.place c) seat away (P.each c)) (λ z m e.

@@ -6,7 +6,6 @@ use native.Mathlib.Decide.{ℕ_discrete}
 use Rattle.st_base.specs.declared.chain.Waiting.{Waiting}
 use Rattle.st_base.specs.declared.chain.Waiting.TheVariants as waits
 use Rattle.st_words.specs.declared.view.Known.{Known}
-use Rattle.st_words.specs.declared.view.Carried.{Carried}
 use Rattle.st_words.specs.declared.view.Waiter.{Waiter}
 use Rattle.st_words.specs.declared.view.View.{View}
 use Rattle.st_words.specs.Encodings.{count_in, head_in, counter_word, count_after, full_word}
@@ -20,12 +19,12 @@ use Rattle.st_world.proofs.Functions.{put_here, put_other}
 use Rattle.st_lists.specs.Listing.{Spot, Nowhere, Held, Lists, counters}
 use Rattle.st_lists.specs.Laws.{KnowsKind}
 use Rattle.st_lists.specs.Going.{Passes}
-use Rattle.st_places.specs.Placing.{Place, Gone, Named, OnStack, InTurn, Places, AreOnce, cells_of, chain_cells}
+use Rattle.st_seats.specs.Placing.{Place, Gone, Named, OnStack, InTurn, Places, AreOnce, cells_of}
 use Rattle.st_places.specs.Steps.{TopEnds, GoesOut}
-use Rattle.st_places.proofs.Seats.{Of, Placed, Holds, at_place, stack_there}
-use Rattle.st_places.proofs.ChangedViews.{SameParts, same_state, same_counter}
-use Rattle.st_places.proofs.Changed.{Stays, StaysOver, One, all_stay, one_kept, one_mail, apart}
-use Rattle.st_places.proofs.ChangedCalm.{NumbersStay, passes, calm}
+use Rattle.st_seats.proofs.Seats.{Of, Placed, Holds, at_place, stack_there}
+use Rattle.st_seats.proofs.Changed.{SameParts, StaysOver, NumbersStay, One, thread_same, one_kept, one_mail, apart, cell_stays, same_kept, calm}
+use Rattle.st_places.proofs.ChangedViews.{same_state, same_counter}
+use Rattle.st_places.proofs.ChangedCalm.{passes}
 
 -- ---- counts
 
@@ -59,9 +58,6 @@ module _ (x : World) (l : Lists x) (P : Places x l) (w : ℕ) (pr : Progress) wh
     stated = record x { state = put x.state c new }
 
     still_over : (counters x.owner c ≡ false → x.state c ≢ full_word) → (counters x.owner c ≡ true → count_in (x.state c) ≤ count_in new) → StaysOver x stated
-    still_over a b waits.Start h = h
-    still_over a b waits.Ready h = h
-    still_over a b waits.Trapped h = h
     still_over a b (waits.Touch e) h = dite (ℕ_discrete e c)
         (λ (s : e ≡ c). absurd (a (ap (counters x.owner) (sym s) ∙ h.0) (ap x.state (sym s) ∙ h.1)))
         (λ (n : e ≢ c). (h.0, put_other x.state c new e n ∙ h.1))
@@ -73,30 +69,18 @@ module _ (x : World) (l : Lists x) (P : Places x l) (w : ℕ) (pr : Progress) wh
         let far : least ≤ count_in new = omega (arith, more, was) in
         (h.0, subst (λ (k : ℕ). least ≤ count_in k) (sym now) far))
         (λ (n : e ≢ c). (h.0, subst (λ (k : ℕ). least ≤ count_in k) (sym (put_other x.state c new e n)) h.1))
+    still_over a b k h = h
 
     -- each thread stays where it is
-    stated_stays : (v : View) (spot' : ℕ → Spot) (wait' : ℕ → Waiting) → StaysOver x stated → (counters x.owner c ≡ false → new ≢ full_word) → SameParts u v → cells_of v.threads ≡ cells_of u.threads → NumbersStay x l P w spot' wait' → Placed (seen w v stated) spot' wait'
-    stated_stays v spot' wait' over open_still same threads g = all_stay x l.spot l.wait P w stated v spot' wait' P.place refl over (λ d. record {
-      there = refl;
-      number = g.0 d;
-      waits = g.1 d;
-      of = λ t. record {
-        below = t.below;
-        named = t.named;
-        future = t.future;
-        unfilled = dite (ℕ_discrete d c)
-            (λ (s : d ≡ c) z. open_still (ap (counters x.owner) (sym s) ∙ t.future) (sym (ap (put x.state c new) s ∙ put_here x.state c new) ∙ z))
-            (λ (n : d ≢ c) z. t.unfilled (sym (put_other x.state c new d n) ∙ z));
-      };
-      standing = refl;
-      trap = refl;
-      home = refl;
-      cargo = refl;
-      mail = λ k chain e f. e;
-      turn = subst (λ (zs : List Carried). Contains (chain_cells zs) d) (sym same.0);
-      stack = subst (λ (cs : List ℕ). Contains cs d) (sym threads);
-      child = λ h. (h.0, same.1 ∙ h.1, h.2);
-    }) (λ k. refl) (λ k. refl) same threads
+    stated_stays : (v : View) (spot' : ℕ → Spot) (wait' : ℕ → Waiting) → StaysOver x stated → (counters x.owner c ≡ false → new ≢ full_word) → SameParts u v → cells_of v.threads ≡ cells_of u.threads → NumbersStay P.place l.spot l.wait spot' wait' → Placed (seen w v stated) spot' wait'
+    stated_stays v spot' wait' over open_still same threads g = same_kept x l.spot l.wait P w x.owner (put x.state c new) v spot' wait' over (λ d t. record {
+      below = t.below;
+      named = t.named;
+      future = t.future;
+      unfilled = dite (ℕ_discrete d c)
+          (λ (s : d ≡ c) z. open_still (ap (counters x.owner) (sym s) ∙ t.future) (sym (ap (put x.state c new) s ∙ put_here x.state c new) ∙ z))
+          (λ (n : d ≢ c) z. t.unfilled (sym (put_other x.state c new d n) ∙ z));
+    }) same threads g
 
     -- a future is full: the top thread has ended
     module _ (spot' : ℕ → Spot) (wait' : ℕ → Waiting) (old : ℕ) where
@@ -106,33 +90,20 @@ module _ (x : World) (l : Lists x) (P : Places x l) (w : ℕ) (pr : Progress) wh
       abbrev filled_view : View
       filled_view = with_progress pr (changed_future c old new true u)
 
-      fill_kept : StaysOver x stated → counters x.owner c ≡ false → new ≡ full_word → TopEnds u c filled_view → NumbersStay x l P w spot' wait' → Placed (seen w filled_view stated) spot' wait'
+      fill_kept : StaysOver x stated → counters x.owner c ≡ false → new ≡ full_word → TopEnds u c filled_view → NumbersStay P.place l.spot l.wait spot' wait' → Placed (seen w filled_view stated) spot' wait'
       fill_kept over kind full top g =
           let was : P.place c ≡ OnStack w = stack_there x l.spot l.wait P w c (top.0, subst (λ (ts : List Known). Contains ts top.0) (sym top.1) (contains_here top.0 pr.threads), top.2) in
           let h = at_place x l.spot l.wait P c (OnStack w) was in
           let V = P.views w in
           let once : AreOnce (cells_of (top.0 ∷ pr.threads)) = subst (λ (ts : List Known). AreOnce (cells_of ts)) top.1 V.threads_once in
           let none : spot' c ≡ Nowhere = ⊎_elim (λ (e : spot' c ≡ l.spot c). e ∙ h.1) (λ q. let e = q.0 in let no : ⊥ = cc in absurd no) (g.0 c) in
-          let stays : (d : ℕ) → d ≢ c → Stays x l.spot l.wait P w stated filled_view spot' wait' gone d = λ d n. record {
-            there = put_other P.place c Gone d n;
-            number = g.0 d;
-            waits = g.1 d;
-            of = λ t. record { below = t.below; named = t.named; future = t.future; unfilled = λ z. t.unfilled (sym (put_other x.state c new d n) ∙ z) };
-            standing = refl;
-            trap = refl;
-            home = refl;
-            cargo = refl;
-            mail = λ k chain e f. e;
-            turn = λ m. m;
-            stack = λ m. ⊎_elim (λ (s : top.0.note.cell ≡ d). absurd (n (sym s ∙ top.2))) (λ q. q) (contains_case d top.0.note.cell (cells_of pr.threads) (subst (λ (ts : List Known). Contains (cells_of ts) d) top.1 m));
-            child = λ e. e;
-          } in
           let O : One x l.spot l.wait P w stated filled_view spot' wait' gone c = record {
-            others = stays;
+            others = λ d n. cell_stays x l.spot l.wait P w x.owner (put x.state c new) filled_view spot' wait' gone d (put_other P.place c Gone d n) g (λ t. thread_same x l.spot l.wait P w stated filled_view spot' wait' gone d refl refl (put_other x.state c new d n) t) (λ m. m)
+                (λ m. ⊎_elim (λ (s : top.0.note.cell ≡ d). absurd (n (sym s ∙ top.2))) (λ q. q) (contains_case d top.0.note.cell (cells_of pr.threads) (subst (λ (ts : List Known). Contains (cells_of ts) d) top.1 m))) (λ e. e);
             mine = λ k o. sym (subst (Of k) was o);
             here = subst (Holds (seen w filled_view stated) spot' wait' gone c) (sym (put_here P.place c Gone)) (h.0, none);
             turn = λ z m. inl (m, apart P.place c z.known.note.cell (OnStack w) (InTurn w) was (V.turn z m).there (λ q. let no : ⊥ = cc in no));
-            stack = λ d m. (subst (λ (ts : List Known). Contains (cells_of ts) d) (sym top.1) (contains_later d top.0.note.cell (cells_of pr.threads) m), λ z. once.0 (subst (Contains (cells_of pr.threads)) (z ∙ sym top.2) m));
+            stack = λ d m. inl (subst (λ (ts : List Known). Contains (cells_of ts) d) (sym top.1) (contains_later d top.0.note.cell (cells_of pr.threads) m), λ z. once.0 (subst (Contains (cells_of pr.threads)) (z ∙ sym top.2) m));
             child = λ z e. inl (e, apart P.place c z.cell (OnStack w) (Named w) was (V.child z e).there (λ q. let no : ⊥ = cc in no));
             chains_once = V.chains_once;
             threads_once = once.1;
@@ -188,7 +159,7 @@ module _ (x : World) (l : Lists x) (P : Places x l) (w : ℕ) (pr : Progress) wh
     exchanged m c old new n f may k t out = by (n == old) refl out
       where
         by : (b : Bool) → (n == old) ≡ b → Out ((b && not (counts_cell (owner_seen c u.owners))) && (new == full_word)) c → Placed (seen w (with_progress pr (cell_changed b c old new n u)) (record x { state = put_if b x.state c new })) spot' wait'
-        by false e threads = calm x l P w (with_progress pr (cell_changed false c old new n u)) spot' wait' (same_state c n u) threads (passes x l P w spot' wait' g)
+        by false e threads = calm x l.spot l.wait P w (with_progress pr (cell_changed false c old new n u)) spot' wait' (same_state c n u) threads (passes x l P w spot' wait' g)
         by true e out =
             let is : x.state c ≡ old = sym f ∙ same_true n old e in
             subst (λ (o : ℕ). MayChange u c o new → Changes m u (CellChange c o new) → After (changed_by (counts_cell (owner_seen c u.owners)) c o new u) c new) is (λ may t. changed_now m c new may k t out) may t

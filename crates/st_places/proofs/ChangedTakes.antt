@@ -1,5 +1,5 @@
 -- A chain is taken from its cell's slot or from mail: home_taken and post_taken.
-use Rattle.std.proofs.Common.{◌≡◌, ◌≢◌, ◌⊎◌, inl, inr, ⊎_elim, ℕ, ◌<◌, Bool, true, false, List, ◌∷◌, Option, Some, None, refl, sym, ap, ◌∙◌, subst}
+use Rattle.std.proofs.Common.{◌≡◌, ◌≢◌, ◌⊎◌, inl, inr, ⊎_elim, ℕ, ◌<◌, Bool, true, false, List, ◌∷◌, Option, Some, None, refl, sym, ap, ◌∙◌, subst, arith}
 use Rattle.std.specs.List.{Contains}
 use mathlib.Core.Logic.{dite}
 use native.Mathlib.Decide.{ℕ_discrete}
@@ -10,20 +10,31 @@ use Rattle.st_words.specs.declared.view.Slot.TheVariants.{Cell, Mail}
 use Rattle.st_words.specs.declared.view.Carried.{Carried}
 use Rattle.st_words.specs.declared.view.Cargo.{Cargo}
 use Rattle.st_words.specs.declared.view.View.{View}
-use Rattle.st_words.specs.Encodings.{running}
+use Rattle.st_words.specs.Encodings.{running, ready}
+use Rattle.st_words.specs.Promises.{IsGoingOn}
 use Rattle.st_words.specs.Views.{Progress, with_progress, in_hand, took, no_cargo}
 use Rattle.st_words.proofs.Lists.{contains_here, contains_later, contains_case}
 use Rattle.st_words.proofs.Puts.{hand_has}
 use Rattle.st_world.specs.Functions.{put}
 use Rattle.st_world.specs.World.{World, seen, with_chain}
 use Rattle.st_world.proofs.Functions.{put_here, put_other, put_id}
-use Rattle.st_lists.specs.Listing.{Spot, Nowhere, Held, Lists, counters}
+use Rattle.st_lists.specs.Listing.{Spot, Nowhere, Held, Readied, Rooted, Lists, counters}
 use Rattle.st_lists.specs.Going.{Stays, GoesTaken}
-use Rattle.st_places.specs.Placing.{Place, Gone, Named, Home, InMail, InTurn, OnStack, IsOver, Rests, WaitsFor, IsTurnSpot, Places, cells_of, chain_cells}
-use Rattle.st_places.proofs.Seats.{Of, Placed, Holds, at_place, chain_there, in_slot}
-use Rattle.st_places.proofs.MovedPlaces.{Turn, MailAt}
-use Rattle.st_places.proofs.ChangedCalm.{calm}
-use Rattle.st_places.proofs.ChangedSlots.{Slotted, slotted_kept, slot_mail, going_over, goes_by, home_there}
+use Rattle.st_seats.specs.Placing.{Place, Home, InMail, InTurn, IsOver, Rests, WaitsFor, IsTurnSpot, Places, cells_of, chain_cells}
+use Rattle.st_seats.proofs.Seats.{Of, Placed, at_place, chain_there, in_slot, Turn, MailAt}
+use Rattle.st_seats.proofs.Slots.{slot_case, home_told, home_filled}
+use Rattle.st_seats.proofs.Changed.{calm}
+use Rattle.st_seats.proofs.ChangedSlots.{Slotted, slotted_kept, slot_mail}
+
+-- a chain in a slot goes on only where its wait is over
+going_over : (counter : ℕ → Bool) (state : ℕ → ℕ) (k : Waiting) (c : ℕ) (s : Spot) (standing unit : ℕ) → (standing ≡ running) ⊎ (standing ≡ ready) → Rests (IsOver counter state) k c s standing unit → IsOver counter state k
+going_over counter state k c (Readied w) standing unit g r = r.0
+going_over counter state k c (Rooted o) standing unit g r = subst (IsOver counter state) (sym r.1) tt
+going_over counter state k c s standing unit g r = let a = r.1 in let no : ⊥ = ⊎_elim (λ z. omega (arith, a, z)) (λ z. omega (arith, a, z)) g in absurd no
+
+goes_by : (z : Carried) (n : ℕ) → z.standing ≡ Some n → IsGoingOn z → (n ≡ running) ⊎ (n ≡ ready)
+goes_by z n e (inl g) = let s : n ≡ running = cc in inl s
+goes_by z n e (inr g) = let s : n ≡ ready = cc in inr s
 
 -- the spot of a number that was taken
 taken_others : {A : Type 0} (spot : ℕ → Spot) (wait : ℕ → Waiting) (spot' : ℕ → Spot) (wait' : ℕ → Waiting) (b : Bool) (a : A) (c : ℕ) → GoesTaken spot wait spot' wait' b (Some a) c → ((d : ℕ) → d ≢ c → spot' d ≡ spot d) × ((d : ℕ) → wait' d ≡ wait d)
@@ -56,7 +67,7 @@ module _ (x : World) (l : Lists x) (P : Places x l) (w : ℕ) (less : w < x.work
       let cargo' : ℕ → Cargo = put x.home_cargo c no_cargo in
       let place' : ℕ → Place = put P.place c (InTurn w) in
       let Now : World = seen w v (with_chain (Cell c) None no_cargo x) in
-      let at : P.place c ≡ Home = home_there x l P c chain e in
+      let at : P.place c ≡ Home = home_filled x l P c chain e in
       let h = in_slot x l.spot l.wait P c at in
       let o = h.1.1 in
       let cargo : Cargo = x.home_cargo c in
@@ -105,15 +116,7 @@ module _ (x : World) (l : Lists x) (P : Places x l) (w : ℕ) (less : w < x.work
 
   -- nothing goes with no chain
   none_there : (c : ℕ) → x.home c ≡ None → x.home_cargo c ≡ no_cargo
-  none_there c e = by (P.place c) (P.each c)
-    where
-      by : (p : Place) → Holds x l.spot l.wait P.place c p → x.home_cargo c ≡ no_cargo
-      by Home h = let s = h.1.1.at in let no : ⊥ = cc in absurd no
-      by Gone h = h.0.1
-      by (Named k) h = h.0.1
-      by (InMail k) h = h.0.1
-      by (InTurn k) h = h.0.1
-      by (OnStack k) h = h.0.1
+  none_there c e = ⊎_elim (λ h. h.1) (λ p. let h = (home_told x l P c p).1.at in let no : ⊥ = cc in absurd no) (slot_case x l P c)
 
   -- a slot that is empty stays so
   put_none : {X : Type 0} (f : ℕ → X) (i : ℕ) (a : X) → f i ≡ a → put f i a ≡ f
@@ -125,7 +128,7 @@ module _ (x : World) (l : Lists x) (P : Places x l) (w : ℕ) (less : w < x.work
       let s = taken_none l.spot l.wait spot' wait' (in_hand c u.hand) None c refl g in
       subst (λ (f : ℕ → Option Chain). Placed (seen w (with_progress pr u) (record x { home = f; home_cargo = put x.home_cargo c no_cargo })) spot' wait') (sym (put_none x.home c None (sym e)))
       (subst (λ (f : ℕ → Cargo). Placed (seen w (with_progress pr u) (record x { home_cargo = f })) spot' wait') (sym (put_none x.home_cargo c no_cargo (none_there c (sym e))))
-      (calm x l P w (with_progress pr u) spot' wait' (refl, refl, refl) same (λ d. inl (s.0 d), s.1)))
+      (calm x l.spot l.wait P w (with_progress pr u) spot' wait' (refl, refl, refl) same (λ d. inl (s.0 d), s.1)))
 
   -- ---- from mail
 
@@ -181,4 +184,4 @@ module _ (x : World) (l : Lists x) (P : Places x l) (w : ℕ) (less : w < x.work
   post_taken at None e g =
       subst (λ (f : ℕ → Option Chain). Placed (seen w (with_progress pr u) (record x { post = f; post_cargo = put x.post_cargo at no_cargo })) spot' wait') (sym (put_none x.post at None (sym e)))
       (subst (λ (f : ℕ → Cargo). Placed (seen w (with_progress pr u) (record x { post_cargo = f })) spot' wait') (sym (put_none x.post_cargo at no_cargo (subst (λ (k : Option Chain). MailAt x l.spot l.wait P.place at k (x.post_cargo at)) (sym e) (P.mail at))))
-      (calm x l P w (with_progress pr u) spot' wait' (refl, refl, refl) same (λ d. inl (g.0 d), g.1)))
+      (calm x l.spot l.wait P w (with_progress pr u) spot' wait' (refl, refl, refl) same (λ d. inl (g.0 d), g.1)))

@@ -1,5 +1,5 @@
 -- Which steps change nothing that the places read of a view but its threads: IsCalm and same_after. same_state and same_counter are of a State word that is read or changed.
-use Rattle.std.proofs.Common.{◌≡◌, ℕ, zero, suc, Bool, true, false, List, Option, Some, None, refl, ◌==◌, ◌&&◌, ◌||◌, is_some}
+use Rattle.std.proofs.Common.{ℕ, zero, suc, Bool, true, false, List, Option, Some, None, refl, ◌==◌, ◌&&◌, ◌||◌, is_some}
 use Rattle.st_base.specs.declared.chain.Frame.{Frame}
 use Rattle.st_words.specs.declared.view.CellWord.{CellWord}
 use Rattle.st_words.specs.declared.view.CellWord.TheVariants.{Owner, State, Value, Next, Standing, Trap}
@@ -9,9 +9,7 @@ use Rattle.st_words.specs.Encodings.{full_word, given, refused}
 use Rattle.st_words.specs.Steps.{Step, StackStore, Mark, Look, CellLoad, CellStore, CellChange, Draw, ActiveAdd, ActiveLoad, StopLoad, StopSet, RootTake, RequestChange, MailLoad, MailStore, SlotTake, SlotPut, OutLoad, Answer, Done, Number, Looked}
 use Rattle.st_words.specs.Views as views
 use Rattle.st_words.specs.Views.{view_after, frame_returning, has_number}
-
-abbrev pub SameParts : View → View → Type 0
-SameParts u v = (v.chains ≡ u.chains) × (v.child ≡ u.child) × (v.filled ≡ u.filled)
+use Rattle.st_seats.proofs.Changed.{SameParts}
 
 abbrev pub itself : (v : View) → SameParts v v
 itself v = (refl, refl, refl)

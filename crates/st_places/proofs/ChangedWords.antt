@@ -1,5 +1,5 @@
--- A Standing or Trap word is stored: anew_kept, where one cell's words, what goes with its chain, or its chain in the turn are made anew and its thread stays where it is. trap_kept is a Trap word.
-use Rattle.std.proofs.Common.{◌≡◌, ◌≢◌, inl, inr, ⊎_elim, ℕ, List, map, Some, refl, sym, ap, ◌∙◌, subst}
+-- A Standing or Trap word is stored: anew_kept, where one cell's words, what goes with its chain, or its chain in the turn are made anew and its thread stays where it is. trap_kept is a Trap word; made_cells and made_out are of the chain of a cell that is made anew in a turn.
+use Rattle.std.proofs.Common.{◌≡◌, ◌≢◌, ◌⊎◌, inl, inr, ⊎_elim, ℕ, Bool, true, false, cond, List, [], ◌∷◌, map, Some, refl, sym, ap, ◌∙◌, subst, ◌==◌, eq-eqb, ne_eqb}
 use Rattle.std.specs.List.{Contains}
 use mathlib.Core.Logic.{dite}
 use native.Mathlib.Decide.{ℕ_discrete}
@@ -13,14 +13,39 @@ use Rattle.st_words.specs.Views.{Progress, with_progress, with_trap}
 use Rattle.st_world.specs.Functions.{put}
 use Rattle.st_world.specs.World.{World, seen}
 use Rattle.st_world.proofs.Functions.{put_here, put_other}
-use Rattle.st_lists.specs.Listing.{Spot, Nowhere, Listed, Held, Behind, Readied, Rooted, Lists}
+use Rattle.st_lists.specs.Listing.{Spot, Nowhere, Held, Lists}
 use Rattle.st_lists.specs.Going.{Stays}
-use Rattle.st_places.specs.Placing.{Place, Gone, Named, Home, InMail, InTurn, OnStack, IsTurnSpot, Places, AreOnce, cells_of, chain_cells}
-use Rattle.st_places.proofs.Seats.{Placed, Holds, ThreadAt, at_place, turn_there}
-use Rattle.st_places.proofs.ChangedChains.{made, made_cells, made_out}
-use Rattle.st_places.proofs.Changed as changed
-use Rattle.st_places.proofs.MovedPlaces.{Turn, Begins}
-use Rattle.st_places.proofs.Changed.{Mine, One, one_kept, one_mail}
+use Rattle.st_seats.specs.Placing.{Place, Gone, Named, Home, InMail, InTurn, OnStack, IsTurnSpot, Places, AreOnce, cells_of, chain_cells}
+use Rattle.st_seats.proofs.Seats.{Placed, Holds, ThreadAt, at_place, turn_there, Turn, Begins}
+use Rattle.st_seats.proofs.MovedLists.{map_out}
+use Rattle.st_seats.proofs.Changed as changed
+use Rattle.st_seats.proofs.Changed.{Mine, One, one_kept, one_mail}
+
+-- ---- the chain of a cell is made anew in a turn
+
+module _ (c : ℕ) (make : Carried → Carried) (keeps : (x : Carried) → (make x).known.note.cell ≡ x.known.note.cell) where
+  abbrev pub made : Carried → Carried
+  made x = cond (x.known.note.cell == c) (make x) x
+
+  cell_made : (b : Bool) (x : Carried) → (cond b (make x) x).known.note.cell ≡ x.known.note.cell
+  cell_made true x = keeps x
+  cell_made false x = refl
+
+  pub made_cells : (xs : List Carried) → chain_cells (map made xs) ≡ chain_cells xs
+  made_cells [] = refl
+  made_cells (x ∷ xs) = λ i. cell_made (x.known.note.cell == c) x i ∷ made_cells xs i
+
+  -- it is an old one, of another cell, or that of the cell, made anew
+  pub made_out : (xs : List Carried) (y : Carried) → Contains (map made xs) y → (Contains xs y × (y.known.note.cell ≢ c)) ⊎ ((x : Carried) × Contains xs x × (x.known.note.cell ≡ c) × (make x ≡ y))
+  made_out xs y m =
+      let r = map_out made xs y m in
+      dite (ℕ_discrete r.0.known.note.cell c)
+      (λ (e : r.0.known.note.cell ≡ c). inr (r.0, r.1, e, sym (ap (λ (b : Bool). cond b (make r.0) r.0) (eq-eqb r.0.known.note.cell c e)) ∙ r.2))
+      (λ (n : r.0.known.note.cell ≢ c).
+      let s : r.0 ≡ y = sym (ap (λ (b : Bool). cond b (make r.0) r.0) (ne_eqb r.0.known.note.cell c n)) ∙ r.2 in
+      inl (subst (λ (z : Carried). Contains xs z × (z.known.note.cell ≢ c)) s (r.1, n)))
+
+-- ---- one cell's words
 
 -- nobody has it, or the worker has it for a child or in its turn
 abbrev pub IsSeat : ℕ → Place → Type 0
@@ -35,8 +60,7 @@ seat_mine w Gone s v o = absurd o
 seat_mine w Home s v o = absurd o
 seat_mine w (Named k) s v o = sym o ∙ s
 seat_mine w (InTurn k) s v o = sym o ∙ s
-seat_mine w (InMail k) s v o = absurd s
-seat_mine w (OnStack k) s v o = absurd s
+seat_mine w p s v o = absurd s
 
 -- nobody has the thread of a cell that isn't named or is full
 pub place_gone : (x : World) (l : Lists x) (P : Places x l) (c : ℕ) → (ThreadAt x l.spot l.wait P.place c → ⊥) → P.place c ≡ Gone
@@ -98,7 +122,7 @@ module _ (x : World) (l : Lists x) (P : Places x l) (w c : ℕ) (v : View) (spot
           mine = seat_mine w (P.place c) A.seat;
           here = A.here;
           turn = λ z m. ⊎_elim (λ q. inl q) (λ q. inr (subst (Turn (seen w v worded) spot' wait' P.place w) q.3 (A.turn q.0 q.1 q.2))) (made_out c make keeps (x.view w).chains z (subst (λ (zs : List Carried). Contains zs z) A.chains m));
-          stack = λ d m. let k = subst (λ (ds : List ℕ). Contains ds d) A.threads m in (k, other d (OnStack w) (V.stack d k).there (λ s. s));
+          stack = λ d m. let k = subst (λ (ds : List ℕ). Contains ds d) A.threads m in inl (k, other d (OnStack w) (V.stack d k).there (λ s. s));
           child = λ z e. dite (ℕ_discrete z.cell c) (λ (s : z.cell ≡ c). inr (A.child z e s)) (λ (n : z.cell ≢ c). inl (A.child_other z e n, n));
           chains_once = subst AreOnce (sym cells) V.chains_once;
           threads_once = subst AreOnce (sym A.threads) V.threads_once;
@@ -148,7 +172,4 @@ module _ (x : World) (l : Lists x) (P : Places x l) (w : ℕ) (pr : Progress) (s
       same : (s : Spot) (k : Waiting) (z : Carried) → IsTurnSpot w s k z → IsTurnSpot w s k (record z { trap = Some n })
       same Nowhere k z h = h
       same (Held j) k z h = h
-      same (Listed d j) k z h = h
-      same (Behind d m j) k z h = h
-      same (Readied j) k z h = h
-      same (Rooted o) k z h = h
+      same s k z h = absurd h

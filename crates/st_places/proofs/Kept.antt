@@ -11,10 +11,10 @@ use Rattle.st_words.specs.Views.{Progress, with_progress, view_after}
 use Rattle.st_world.specs.World.{World, Finds, world_after}
 use Rattle.st_lists.specs.Listing.{Spot, Lists}
 use Rattle.st_lists.specs.Going.{Goes}
-use Rattle.st_places.specs.Placing.{Places}
+use Rattle.st_seats.specs.Placing.{Places}
 use Rattle.st_places.specs.Steps.{IsKnown, GoesOut, ThreadsGo}
 use Rattle.st_places.specs.Laws.{Kept}
-use Rattle.st_places.proofs.Seats.{Placed}
+use Rattle.st_seats.proofs.Seats.{Placed}
 use Rattle.st_places.proofs.ChangedCalm.{calm_kept}
 use Rattle.st_places.proofs.ChangedStates.{exchanged}
 use Rattle.st_places.proofs.ChangedWords.{trap_kept}
@@ -42,18 +42,12 @@ answered m x l P w less (SlotTake (Mail at)) (Took o cargo) pr spot' wait' can c
     subst (λ (k : Cargo). Placed (world_after x w (SlotTake (Mail at)) (Took o k) (with_progress pr (view_after (x.view w) (SlotTake (Mail at)) (Took o k)))) spot' wait') (sym f.1) (post_taken x l P w less pr spot' wait' t at o f.0 g)
 answered m x l P w less (SlotPut (Cell c) chain cargo) Done pr spot' wait' can careful known f t g = home_put x l P w pr spot' wait' t m c chain cargo can.1.0 careful.puts g
 answered m x l P w less (SlotPut (Mail at) chain cargo) Done pr spot' wait' can careful known f t g = post_put x l P w pr spot' wait' t m at chain cargo careful.puts known g
-answered m x l P w less (CellChange c old new) Done pr spot' wait' can careful known f t g = absurd f
-answered m x l P w less (CellChange c old new) (Looked k d) pr spot' wait' can careful known f t g = absurd f
-answered m x l P w less (CellChange c old new) (Took k d) pr spot' wait' can careful known f t g = absurd f
+answered m x l P w less (CellChange c old new) a pr spot' wait' can careful known f t g = absurd f
+answered m x l P w less (SlotTake slot) a pr spot' wait' can careful known f t g = absurd f
+answered m x l P w less (SlotPut slot chain cargo) a pr spot' wait' can careful known f t g = absurd f
 answered m x l P w less (CellStore c word n) (Number k) pr spot' wait' can careful known f t g = absurd f
 answered m x l P w less (CellStore c word n) (Looked k d) pr spot' wait' can careful known f t g = absurd f
 answered m x l P w less (CellStore c word n) (Took k d) pr spot' wait' can careful known f t g = absurd f
-answered m x l P w less (SlotTake slot) Done pr spot' wait' can careful known f t g = absurd f
-answered m x l P w less (SlotTake slot) (Number k) pr spot' wait' can careful known f t g = absurd f
-answered m x l P w less (SlotTake slot) (Looked k d) pr spot' wait' can careful known f t g = absurd f
-answered m x l P w less (SlotPut slot chain cargo) (Number k) pr spot' wait' can careful known f t g = absurd f
-answered m x l P w less (SlotPut slot chain cargo) (Looked k d) pr spot' wait' can careful known f t g = absurd f
-answered m x l P w less (SlotPut slot chain cargo) (Took k d) pr spot' wait' can careful known f t g = absurd f
 answered m x l P w less s a pr spot' wait' can careful known f t g = calm_kept x l P w s a pr spot' wait' tt f t g
 
 pub kept : (m : Meaning) → Kept m

@@ -13,7 +13,7 @@ use Rattle.st_words.specs.Views.{counts_cell, owner_seen}
 use Rattle.st_world.specs.World.{World}
 use Rattle.st_lists.specs.Laws.{KnowsKind}
 use Rattle.st_lists.specs.Listing.{counters}
-use Rattle.st_places.specs.Placing.{IsOver, cells_of}
+use Rattle.st_seats.specs.Placing.{IsOver, cells_of}
 
 -- a cell that is named was not; what the view has seen to be over is over, where a waiter becomes ready; a State word that is changed is of the kind that
 -- the worker takes it for; a mail slot is there, and empty, where a chain is put

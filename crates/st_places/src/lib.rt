@@ -1,6 +1,6 @@
-//! Where each thread is: gone, named for a child, in the slot of its cell, in mail, in a turn, or on a stack.
+//! The places of threads, which st_seats defines, are kept by each step of a worker.
 //!
-//! `laws` has what is kept; `specs/Placing.antt` has the definition, over worlds with their lists.
+//! `laws` has that; `specs/Steps.antt` has what a step is told of for it.
 #![tactic(auto)]
 
 pub mod laws;

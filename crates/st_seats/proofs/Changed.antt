@@ -1,6 +1,6 @@
 -- What a step of the worker w leaves of the places, where x is the world before it and y has the words and slots after it. Stays is what a cell keeps whose thread stays where it is;
 -- Mine, that no other worker has the thread. Reach for all_stay where all cells stay, and for One and one_kept where one doesn't; mail_stays and one_mail
--- are for what lies in mail.
+-- are for what lies in mail; cell_stays, same_kept and calm are for changes of owners, of State words, or of no word.
 use Rattle.std.proofs.Common.{◌≡◌, ◌≢◌, ◌⊎◌, inl, inr, ⊎_elim, ℕ, ◌<◌, List, Option, Some, None, refl, sym, ap, ◌∙◌, subst}
 use Rattle.std.specs.List.{Contains}
 use mathlib.Core.Logic.{dite}
@@ -15,14 +15,16 @@ use Rattle.st_words.specs.declared.view.View.{View}
 use Rattle.st_words.specs.Encodings.{waits_word}
 use Rattle.st_words.specs.Steps.{IsWaiting, IsChild}
 use Rattle.st_world.specs.Functions.{put}
-use Rattle.st_world.specs.World.{World}
+use Rattle.st_world.specs.World.{World, seen}
 use Rattle.st_world.proofs.Functions.{put_all}
 use Rattle.st_lists.specs.Listing.{Spot, Nowhere, Listed, Held, Behind, Readied, Rooted, counters}
 use Rattle.st_lists.specs.Going.{IsQueued}
-use Rattle.st_places.specs.Placing.{Place, Gone, Named, Home, InMail, InTurn, OnStack, IsOver, Rests, WaitsFor, IsTurnSpot, AreOnce, cells_of, chain_cells}
-use Rattle.st_places.proofs.Seats.{Of, Placed, Holds, HoldsHome, ThreadAt, Views}
-use Rattle.st_places.proofs.MovedPlaces.{Turn, Stack, Begins, MailAt}
-use Rattle.st_places.proofs.ChangedViews.{SameParts}
+use Rattle.st_seats.specs.Placing.{Place, Gone, Named, Home, InMail, InTurn, OnStack, IsOver, Rests, WaitsFor, IsTurnSpot, AreOnce, cells_of, chain_cells}
+use Rattle.st_seats.proofs.Seats.{Of, Placed, Holds, HoldsHome, ThreadAt, Views, Turn, Stack, Begins, MailAt}
+
+-- the chains, the named child, and the cells that were made full are the same
+abbrev pub SameParts : View → View → Type 0
+SameParts u v = (v.chains ≡ u.chains) × (v.child ≡ u.child) × (v.filled ≡ u.filled)
 
 -- what is over stays so
 abbrev pub StaysOver : World → World → Type 0
@@ -34,21 +36,21 @@ StaysOver x y = (k : Waiting) → IsOver (counters x.owner) x.state k → IsOver
 abbrev pub Kin : Spot → Spot → Type 0
 Kin s s' = (IsQueued s × IsQueued s') ⊎ ((o : Option ℕ) × (o' : Option ℕ) × (s ≡ Rooted o) × (s' ≡ Rooted o'))
 
+-- the number stays, or goes from list or hand to list or hand, and the chain is in its slot
+abbrev pub NumbersStay : (ℕ → Place) → (ℕ → Spot) → (ℕ → Waiting) → (ℕ → Spot) → (ℕ → Waiting) → Type 0
+NumbersStay place spot wait spot' wait' = ((d : ℕ) → (spot' d ≡ spot d) ⊎ ((place d ≡ Home) × Kin (spot d) (spot' d))) × ((d : ℕ) → wait' d ≡ wait d)
+
 queued_rests : (Over : Waiting → Type 0) (k : Waiting) (c : ℕ) (s : Spot) (standing unit : ℕ) → IsQueued s → Rests Over k c s standing unit ≡ (IsWaiting k × (standing ≡ waits_word) × (unit ≡ 0))
 queued_rests Over k c (Listed e n) standing unit q = refl
 queued_rests Over k c (Held w) standing unit q = refl
 queued_rests Over k c (Behind w m n) standing unit q = refl
-queued_rests Over k c Nowhere standing unit q = absurd q
-queued_rests Over k c (Readied w) standing unit q = absurd q
-queued_rests Over k c (Rooted o) standing unit q = absurd q
+queued_rests Over k c s standing unit q = absurd q
 
 queued_waits : (wait k : Waiting) (s : Spot) → IsQueued s → WaitsFor wait s k ≡ (k ≡ wait)
 queued_waits wait k (Listed e n) q = refl
 queued_waits wait k (Held w) q = refl
 queued_waits wait k (Behind w m n) q = refl
-queued_waits wait k Nowhere q = absurd q
-queued_waits wait k (Readied w) q = absurd q
-queued_waits wait k (Rooted o) q = absurd q
+queued_waits wait k s q = absurd q
 
 kin_rests : (Over : Waiting → Type 0) (k : Waiting) (c : ℕ) (s s' : Spot) (standing unit : ℕ) → Kin s s' → Rests Over k c s standing unit → Rests Over k c s' standing unit
 kin_rests Over k c s s' standing unit (inl q) r = subst (λ (T : Type 0). T) (queued_rests Over k c s standing unit q.0 ∙ sym (queued_rests Over k c s' standing unit q.1)) r
@@ -60,11 +62,7 @@ kin_waits wait k s s' (inr q) r = subst (λ (t : Spot). WaitsFor wait t k) (sym 
 
 rests_over : (Over Over' : Waiting → Type 0) (k : Waiting) (c : ℕ) (s : Spot) (standing unit : ℕ) → ((k : Waiting) → Over k → Over' k) → Rests Over k c s standing unit → Rests Over' k c s standing unit
 rests_over Over Over' k c (Readied w) standing unit f r = (f k r.0, r.1, r.2)
-rests_over Over Over' k c (Listed e n) standing unit f r = r
-rests_over Over Over' k c (Held w) standing unit f r = r
-rests_over Over Over' k c (Behind w m n) standing unit f r = r
-rests_over Over Over' k c (Rooted o) standing unit f r = r
-rests_over Over Over' k c Nowhere standing unit f r = r
+rests_over Over Over' k c s standing unit f r = r
 
 -- ---- who has a thread
 
@@ -109,7 +107,7 @@ module _ (x : World) (spot : ℕ → Spot) (wait : ℕ → Waiting) (P : Placed 
     pub mine : Mine w (P.place c)
     pub here : Holds now spot' wait' place' c (place' c)
     pub turn : (z : Carried) → Contains v.chains z → (Contains (x.view w).chains z × (z.known.note.cell ≢ c)) ⊎ Turn now spot' wait' place' w z
-    pub stack : (d : ℕ) → Contains (cells_of v.threads) d → Contains (cells_of (x.view w).threads) d × (d ≢ c)
+    pub stack : (d : ℕ) → Contains (cells_of v.threads) d → (Contains (cells_of (x.view w).threads) d × (d ≢ c)) ⊎ Stack now spot' wait' place' w d
     pub child : (z : Child) → v.child ≡ Some z → (((x.view w).child ≡ Some z) × (z.cell ≢ c)) ⊎ Begins now spot' wait' place' w z
     pub chains_once : AreOnce (chain_cells v.chains)
     pub threads_once : AreOnce (cells_of v.threads)
@@ -220,7 +218,7 @@ module _ (x : World) (spot : ℕ → Spot) (wait : ℕ → Waiting) (P : Placed 
         (λ (e : d ≡ c). inr (subst (λ (k : ℕ). Mine w (P.place k) × Holds now spot' wait' place' k (place' k)) (sym e) (o.mine, o.here)))
         (λ (n : d ≢ c). inl (o.others d n))) mail (record {
           turn = λ z m. ⊎_elim (λ h. turn_stays w z (o.others z.known.note.cell h.1) (V.turn z h.0)) (λ h. h) (o.turn z m);
-          stack = λ d m. let h = o.stack d m in stack_stays w d (o.others d h.1) (V.stack d h.0);
+          stack = λ d m. ⊎_elim (λ h. stack_stays w d (o.others d h.1) (V.stack d h.0)) (λ h. h) (o.stack d m);
           child = λ z e. ⊎_elim (λ h. child_stays w z (o.others z.cell h.1) (V.child z h.0)) (λ h. h) (o.child z e);
           chains_once = o.chains_once;
           threads_once = o.threads_once;
@@ -243,3 +241,35 @@ module _ (x : World) (spot : ℕ → Spot) (wait : ℕ → Waiting) (P : Placed 
           threads_once = subst AreOnce (sym threads) V.threads_once;
           filled = λ c m. V.filled c (subst (λ (cs : List ℕ). Contains cs c) same.2 m);
         })
+
+-- ---- no words change but the owners and the State words
+
+module _ (x : World) (spot : ℕ → Spot) (wait : ℕ → Waiting) (P : Placed x spot wait) (w : ℕ) (owner' state' : ℕ → ℕ) (v : View) (spot' : ℕ → Spot) (wait' : ℕ → Waiting) where
+  abbrev named : World
+  named = record x { owner = owner'; state = state' }
+
+  pub cell_stays : (place' : ℕ → Place) (d : ℕ) → place' d ≡ P.place d → NumbersStay P.place spot wait spot' wait' → (ThreadAt x spot wait P.place d → ThreadAt (seen w v named) spot' wait' place' d) → (Contains (chain_cells (x.view w).chains) d → Contains (chain_cells v.chains) d) → (Contains (cells_of (x.view w).threads) d → Contains (cells_of v.threads) d) → (IsChild (x.view w) d → IsChild v d) → Stays x spot wait P w named v spot' wait' place' d
+  cell_stays place' d there g of turn stack child = record {
+    there = there;
+    number = g.0 d;
+    waits = g.1 d;
+    of = of;
+    standing = refl;
+    trap = refl;
+    home = refl;
+    cargo = refl;
+    mail = λ u chain e f. e;
+    turn = turn;
+    stack = stack;
+    child = child;
+  }
+
+  -- all threads stay where they are
+  pub same_kept : StaysOver x named → ((d : ℕ) → ThreadAt x spot wait P.place d → ThreadAt (seen w v named) spot' wait' P.place d) → SameParts (x.view w) v → cells_of v.threads ≡ cells_of (x.view w).threads → NumbersStay P.place spot wait spot' wait' → Placed (seen w v named) spot' wait'
+  same_kept over of same threads g = all_stay x spot wait P w named v spot' wait' P.place refl over
+      (λ d. cell_stays P.place d refl g (of d) (subst (λ (zs : List Carried). Contains (chain_cells zs) d) (sym same.0)) (subst (λ (cs : List ℕ). Contains cs d) (sym threads)) (λ h. (h.0, same.1 ∙ h.1, h.2)))
+      (λ u. refl) (λ u. refl) same threads
+
+-- the words and slots are as they were
+pub calm : (x : World) (spot : ℕ → Spot) (wait : ℕ → Waiting) (P : Placed x spot wait) (w : ℕ) (v : View) (spot' : ℕ → Spot) (wait' : ℕ → Waiting) → SameParts (x.view w) v → cells_of v.threads ≡ cells_of (x.view w).threads → NumbersStay P.place spot wait spot' wait' → Placed (seen w v x) spot' wait'
+calm x spot wait P w v spot' wait' same threads g = same_kept x spot wait P w x.owner x.state v spot' wait' (λ k h. h) (λ d t. thread_same x spot wait P w x v spot' wait' P.place d refl refl refl t) same threads g

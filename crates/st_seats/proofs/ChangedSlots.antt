@@ -1,50 +1,19 @@
--- A chain goes from a slot into the turn, or from the turn into a slot: Slotted and slotted_kept; slot_mail is for the mail slots that stay. home_there is the place of a chain in its cell's slot; going_over, that a chain which goes on had its wait over.
-use Rattle.std.proofs.Common.{◌≡◌, ◌≢◌, ◌⊎◌, inl, inr, ⊎_elim, ℕ, Bool, List, Option, Some, None, refl, sym, ◌∙◌, subst, arith}
+-- A chain goes from a slot into the turn, or from the turn into a slot: Slotted and slotted_kept; slot_mail is for the mail slots that stay.
+use Rattle.std.proofs.Common.{◌≡◌, ◌≢◌, ◌⊎◌, inl, ℕ, List, Option, Some, refl, sym, ◌∙◌, subst}
 use Rattle.std.specs.List.{Contains}
 use Rattle.st_base.specs.declared.chain.Chain.{Chain}
 use Rattle.st_base.specs.declared.chain.Waiting.{Waiting}
 use Rattle.st_words.specs.declared.view.Carried.{Carried}
 use Rattle.st_words.specs.declared.view.Cargo.{Cargo}
 use Rattle.st_words.specs.declared.view.View.{View}
-use Rattle.st_words.specs.Encodings.{running, ready}
-use Rattle.st_words.specs.Promises.{IsGoingOn}
 use Rattle.st_world.specs.Functions.{put}
 use Rattle.st_world.specs.World.{World, seen}
 use Rattle.st_world.proofs.Functions.{put_here, put_other}
-use Rattle.st_lists.specs.Listing.{Spot, Nowhere, Listed, Held, Behind, Readied, Rooted, Lists}
-use Rattle.st_places.specs.Placing.{Place, Gone, Named, Home, InMail, InTurn, OnStack, IsOver, Rests, Places, AreOnce, cells_of, chain_cells}
-use Rattle.st_places.proofs.Seats.{Placed, Holds}
-use Rattle.st_places.proofs.Changed as changed
-use Rattle.st_places.proofs.MovedPlaces.{Turn, MailAt}
-use Rattle.st_places.proofs.Changed.{Mine, One, one_kept, mail_stays, apart}
-
--- a chain in a slot goes on only where its wait is over
-pub going_over : (counter : ℕ → Bool) (state : ℕ → ℕ) (k : Waiting) (c : ℕ) (s : Spot) (standing unit : ℕ) → (standing ≡ running) ⊎ (standing ≡ ready) → Rests (IsOver counter state) k c s standing unit → IsOver counter state k
-going_over counter state k c (Readied w) standing unit g r = r.0
-going_over counter state k c (Rooted o) standing unit g r = subst (IsOver counter state) (sym r.1) tt
-going_over counter state k c (Listed e n) standing unit g r = let a = r.1 in let no : ⊥ = ⊎_elim (λ z. omega (arith, a, z)) (λ z. omega (arith, a, z)) g in absurd no
-going_over counter state k c (Held w) standing unit g r = let a = r.1 in let no : ⊥ = ⊎_elim (λ z. omega (arith, a, z)) (λ z. omega (arith, a, z)) g in absurd no
-going_over counter state k c (Behind w m n) standing unit g r = let a = r.1 in let no : ⊥ = ⊎_elim (λ z. omega (arith, a, z)) (λ z. omega (arith, a, z)) g in absurd no
-going_over counter state k c Nowhere standing unit g r = let a = r.1 in let no : ⊥ = ⊎_elim (λ z. omega (arith, a, z)) (λ z. omega (arith, a, z)) g in absurd no
-
-pub goes_by : (z : Carried) (n : ℕ) → z.standing ≡ Some n → IsGoingOn z → (n ≡ running) ⊎ (n ≡ ready)
-goes_by z n e (inl g) = let s : n ≡ running = cc in inl s
-goes_by z n e (inr g) = let s : n ≡ ready = cc in inr s
-
--- a slot of a cell with a chain is where its thread is
-pub home_there : (x : World) (l : Lists x) (P : Places x l) (c : ℕ) (chain : Chain) → x.home c ≡ Some chain → P.place c ≡ Home
-home_there x l P c chain e = by (P.place c) (P.each c)
-  where
-    none : (x.home c ≡ None) → ⊥
-    none h = let no : ⊥ = cc in no
-
-    by : (p : Place) → Holds x l.spot l.wait P.place c p → p ≡ Home
-    by Home h = refl
-    by Gone h = absurd (none h.0.0)
-    by (Named k) h = absurd (none h.0.0)
-    by (InMail k) h = absurd (none h.0.0)
-    by (InTurn k) h = absurd (none h.0.0)
-    by (OnStack k) h = absurd (none h.0.0)
+use Rattle.st_lists.specs.Listing.{Spot, Lists}
+use Rattle.st_seats.specs.Placing.{Place, Named, InMail, OnStack, Places, AreOnce, cells_of, chain_cells}
+use Rattle.st_seats.proofs.Seats.{Placed, Holds, Turn, MailAt}
+use Rattle.st_seats.proofs.Changed as changed
+use Rattle.st_seats.proofs.Changed.{Mine, One, one_kept, mail_stays, apart}
 
 module _ (x : World) (l : Lists x) (P : Places x l) (w c : ℕ) (q : Place) (v : View) (spot' : ℕ → Spot) (wait' : ℕ → Waiting) (home' : ℕ → Option Chain) (cargo' : ℕ → Cargo) (post' : ℕ → Option Chain) (post_cargo' : ℕ → Cargo) where
   abbrev pub slotted : World
@@ -90,7 +59,7 @@ module _ (x : World) (l : Lists x) (P : Places x l) (w c : ℕ) (q : Place) (v :
           mine = S.mine;
           here = subst (Holds (seen w v slotted) spot' wait' gone_to c) (sym (put_here P.place c q)) S.here;
           turn = S.turn;
-          stack = λ d m. let k = subst (λ (ds : List ℕ). Contains ds d) S.same.0 m in (k, apart P.place c d (P.place c) (OnStack w) refl (V.stack d k).there S.no_stack);
+          stack = λ d m. let k = subst (λ (ds : List ℕ). Contains ds d) S.same.0 m in inl (k, apart P.place c d (P.place c) (OnStack w) refl (V.stack d k).there S.no_stack);
           child = λ z e. let k = sym S.same.1 ∙ e in inl (k, apart P.place c z.cell (P.place c) (Named w) refl (V.child z k).there S.no_child);
           chains_once = S.once;
           threads_once = subst AreOnce (sym S.same.0) V.threads_once;

@@ -2,20 +2,19 @@
 -- and of_worker what follows; some_spot, ready_home, rooted_home and held_home are where its chain is by where its number is.
 use Rattle.std.proofs.Common.{◌≡◌, ◌≢◌, ◌⊎◌, inl, inr, ⊎_elim, ℕ, ◌<◌, Option, None, refl, sym, ap, ◌∙◌, subst}
 use Rattle.std.specs.List.{Contains}
-use mathlib.Core.Logic.{dite}
-use native.Mathlib.Decide.{ℕ_discrete}
 use Rattle.st_base.specs.declared.chain.Chain.{Chain}
 use Rattle.st_base.specs.declared.chain.Waiting.{Waiting}
 use Rattle.st_words.specs.declared.view.Cargo.{Cargo}
 use Rattle.st_words.specs.declared.view.Known.{Known}
 use Rattle.st_words.specs.declared.view.Carried.{Carried}
+use Rattle.st_words.specs.declared.view.Child.{Child}
 use Rattle.st_words.specs.declared.view.View.{View}
 use Rattle.st_words.specs.Views.{no_cargo}
 use Rattle.st_words.specs.Steps.{HasThread, HasChain, IsChild}
 use Rattle.st_world.specs.World.{World}
-use Rattle.st_lists.specs.Listing.{Spot, Nowhere, Listed, Held, Behind, Readied, Rooted}
-use Rattle.st_places.specs.Placing.{Place, Gone, Named, Home, InMail, InTurn, OnStack, IsOfThread, PlaceHolds, HomeHolds, IsTurnSpot, ViewPlaces, Placing, cells_of, chain_cells}
-use Rattle.st_places.proofs.MovedLists.{map_out, map_has}
+use Rattle.st_lists.specs.Listing.{Spot, Nowhere, Held, Readied, Rooted}
+use Rattle.st_seats.specs.Placing.{Place, Named, Home, InTurn, OnStack, IsOfThread, PlaceHolds, HomeHolds, MailHolds, TurnHolds, StackHolds, ChildHolds, IsTurnSpot, ViewPlaces, Placing, cells_of, chain_cells}
+use Rattle.st_seats.proofs.MovedLists.{map_out, map_has}
 
 -- this worker has the thread
 abbrev pub Of : ℕ → Place → Type 0
@@ -24,21 +23,11 @@ Of w (InTurn v) = v ≡ w
 Of w (OnStack v) = v ≡ w
 Of w _ = ⊥
 
-pub of_case : (w : ℕ) (p : Place) → Of w p ⊎ (Of w p → ⊥)
-of_case w (Named v) = dite (ℕ_discrete v w) (λ (e : v ≡ w). inl e) (λ (n : v ≢ w). inr n)
-of_case w (InTurn v) = dite (ℕ_discrete v w) (λ (e : v ≡ w). inl e) (λ (n : v ≢ w). inr n)
-of_case w (OnStack v) = dite (ℕ_discrete v w) (λ (e : v ≡ w). inl e) (λ (n : v ≢ w). inr n)
-of_case w Gone = inr (λ h. h)
-of_case w Home = inr (λ h. h)
-of_case w (InMail v) = inr (λ h. h)
-
 pub of_one : (v w : ℕ) (p : Place) → Of v p → Of w p → v ≡ w
 of_one v w (Named z) a b = sym a ∙ b
 of_one v w (InTurn z) a b = sym a ∙ b
 of_one v w (OnStack z) a b = sym a ∙ b
-of_one v w Gone a b = absurd a
-of_one v w Home a b = absurd a
-of_one v w (InMail z) a b = absurd a
+of_one v w p a b = absurd a
 
 -- ---- the parts of a world
 
@@ -56,6 +45,18 @@ ThreadAt x spot wait place = IsOfThread x.workers x.cells spot wait x.owner x.st
 
 abbrev pub Views : World → (ℕ → Spot) → (ℕ → Waiting) → (ℕ → Place) → ℕ → View → Type 0
 Views x spot wait place = ViewPlaces x.workers x.cells spot wait x.owner x.state x.standing x.trap x.home x.home_cargo x.post x.post_cargo x.view place
+
+abbrev pub Turn : World → (ℕ → Spot) → (ℕ → Waiting) → (ℕ → Place) → ℕ → Carried → Type 0
+Turn x spot wait place = TurnHolds x.workers x.cells spot wait x.owner x.state x.standing x.trap x.home x.home_cargo x.post x.post_cargo x.view place
+
+abbrev pub Stack : World → (ℕ → Spot) → (ℕ → Waiting) → (ℕ → Place) → ℕ → ℕ → Type 0
+Stack x spot wait place = StackHolds x.workers x.cells spot wait x.owner x.state x.standing x.trap x.home x.home_cargo x.post x.post_cargo x.view place
+
+abbrev pub Begins : World → (ℕ → Spot) → (ℕ → Waiting) → (ℕ → Place) → ℕ → Child → Type 0
+Begins x spot wait place = ChildHolds x.workers x.cells spot wait x.owner x.state x.standing x.trap x.home x.home_cargo x.post x.post_cargo x.view place
+
+abbrev pub MailAt : World → (ℕ → Spot) → (ℕ → Waiting) → (ℕ → Place) → ℕ → Option Chain → Cargo → Type 0
+MailAt x spot wait place = MailHolds x.workers x.cells spot wait x.owner x.state x.standing x.trap x.home x.home_cargo x.post x.post_cargo x.view place
 
 module _ (x : World) (spot : ℕ → Spot) (wait : ℕ → Waiting) (P : Placed x spot wait) where
   pub at_place : (c : ℕ) (p : Place) → P.place c ≡ p → Holds x spot wait P.place c p
@@ -87,9 +88,7 @@ module _ (x : World) (spot : ℕ → Spot) (wait : ℕ → Waiting) (P : Placed 
   of_told w c (Named v) e h = (h.0, h.2, subst (λ (z : ℕ). z < x.workers) e h.4)
   of_told w c (InTurn v) e h = (h.0, h.1, subst (λ (z : ℕ). z < x.workers) e h.3)
   of_told w c (OnStack v) e h = (h.0, h.2, subst (λ (z : ℕ). z < x.workers) e h.4)
-  of_told w c Gone e h = absurd e
-  of_told w c Home e h = absurd e
-  of_told w c (InMail v) e h = absurd e
+  of_told w c p e h = absurd e
 
   -- its slot is empty, its cell is of a thread that hasn't ended, and the worker is one of the board's
   pub of_empty : (w c : ℕ) → Of w (P.place c) → (x.home c ≡ None) × (x.home_cargo c ≡ no_cargo)
@@ -113,18 +112,12 @@ module _ (x : World) (spot : ℕ → Spot) (wait : ℕ → Waiting) (P : Placed 
       by : (y : Carried) (s : Spot) → spot c ≡ s → IsTurnSpot w s (wait c) y → (spot c ≡ Nowhere) ⊎ (spot c ≡ Held w)
       by y Nowhere e t = inl e
       by y (Held v) e t = inr (e ∙ ap Held t.0)
-      by y (Listed d k) e t = absurd t
-      by y (Behind v d k) e t = absurd t
-      by y (Readied v) e t = absurd t
-      by y (Rooted o) e t = absurd t
+      by y s e t = absurd t
 
   seat : (c : ℕ) (p : Place) → P.place c ≡ p → spot c ≢ Nowhere → (p ≡ Home) ⊎ ((w : ℕ) × (P.place c ≡ InTurn w) × (spot c ≡ Held w))
   seat c Home e n = inl refl
   seat c (InTurn w) e n = ⊎_elim (λ s. absurd (n s)) (λ (s : spot c ≡ Held w). inr (w, e, s)) (turn_spot w c e)
-  seat c Gone e n = absurd (n (at_place c Gone e).1)
-  seat c (Named w) e n = absurd (n (at_place c (Named w) e).1)
-  seat c (InMail w) e n = absurd (n (at_place c (InMail w) e).1)
-  seat c (OnStack w) e n = absurd (n (at_place c (OnStack w) e).1)
+  seat c p e n = absurd (n (at_place c p e).1)
 
   -- whose number is somewhere has its chain in its slot, or in the turn of who has the number in hand
   pub some_spot : (c : ℕ) → spot c ≢ Nowhere → (P.place c ≡ Home) ⊎ ((w : ℕ) × (P.place c ≡ InTurn w) × (spot c ≡ Held w))

@@ -8,10 +8,10 @@ use Rattle.st_words.specs.Encodings.{trapped, waits_word}
 use Rattle.st_words.proofs.Lists.{contains_none}
 use Rattle.st_world.specs.World.{World}
 use Rattle.st_lists.specs.Listing.{Spot, Nowhere, Listed, Held, Behind, Readied, Rooted, Lists}
-use Rattle.st_places.specs.Placing.{Place, Gone, Named, Home, InMail, InTurn, OnStack, Places, cells_of, chain_cells}
-use Rattle.st_places.specs.Laws.{IsIdle, IsStill, RestLaws}
-use Rattle.st_places.proofs.Seats.{at_place}
-use Rattle.st_places.proofs.Slots.{home_told, home_below, rests_as}
+use Rattle.st_seats.specs.Placing.{Place, Gone, Named, Home, InMail, InTurn, OnStack, Places, cells_of, chain_cells}
+use Rattle.st_seats.specs.Laws.{IsIdle, IsStill, RestLaws}
+use Rattle.st_seats.proofs.Seats.{at_place}
+use Rattle.st_seats.proofs.Slots.{home_told, home_below, rests_as}
 
 module _ (x : World) (l : Lists x) (P : Places x l) (idle : (w : ℕ) → w < x.workers → IsIdle (x.view w)) (no_mail : (v : ℕ) → v < x.workers → x.post v ≡ None) (light : (c : ℕ) → c < x.cells → (x.home_cargo c).unit ≡ 0) where
   -- no number is in a hand

@@ -12,9 +12,9 @@ use Rattle.st_words.specs.Promises.{IsCargoOf, IsInItsCell, IsActive, IsByHand, 
 use Rattle.st_words.specs.Careful.{IsAtHome}
 use Rattle.st_world.specs.World.{World, slot_of, cargo_of}
 use Rattle.st_lists.specs.Listing.{Spot, Nowhere, Held, Readied, Rooted, Lists, counters}
-use Rattle.st_places.specs.Placing.{Place, Gone, Named, Home, InMail, InTurn, OnStack, Rests, WaitsFor, IsOver, MailHolds, PostHolds, Places}
-use Rattle.st_places.specs.Laws.{SlotLaws}
-use Rattle.st_places.proofs.Seats.{Of, HoldsHome, at_place, turn_there, of_empty, turn_spot, ready_home, rooted_home, held_home, in_slot}
+use Rattle.st_seats.specs.Placing.{Place, Home, InMail, Rests, WaitsFor, IsOver, MailHolds, PostHolds, Places}
+use Rattle.st_seats.specs.Laws.{SlotLaws}
+use Rattle.st_seats.proofs.Seats.{Of, HoldsHome, at_place, turn_there, of_empty, turn_spot, ready_home, rooted_home, held_home, in_slot}
 
 pub held : (x : World) (l : Lists x) (w c : ℕ) → HasInHand (x.view w) c → l.spot c ≡ Held w
 held x l w c h = subst (λ (d : ℕ). l.spot d ≡ Held w) h.2 ((l.listing.hands w).entries h.0 h.1).held
@@ -28,11 +28,7 @@ module _ (x : World) (l : Lists x) (P : Places x l) where
 
   seat_slot : (c : ℕ) (p : Place) → P.place c ≡ p → ((x.home c ≡ None) × (x.home_cargo c ≡ no_cargo)) ⊎ (P.place c ≡ Home)
   seat_slot c Home e = inr e
-  seat_slot c Gone e = inl (at_place x l.spot l.wait P c Gone e).0
-  seat_slot c (Named w) e = inl (at_place x l.spot l.wait P c (Named w) e).0
-  seat_slot c (InMail w) e = inl (at_place x l.spot l.wait P c (InMail w) e).0
-  seat_slot c (InTurn w) e = inl (at_place x l.spot l.wait P c (InTurn w) e).0
-  seat_slot c (OnStack w) e = inl (at_place x l.spot l.wait P c (OnStack w) e).0
+  seat_slot c p e = inl (at_place x l.spot l.wait P c p e).0
 
   -- a cell's slot is empty, or has its chain
   pub slot_case : (c : ℕ) → ((x.home c ≡ None) × (x.home_cargo c ≡ no_cargo)) ⊎ (P.place c ≡ Home)

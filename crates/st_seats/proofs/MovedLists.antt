@@ -6,7 +6,7 @@ use Rattle.st_words.specs.declared.view.Known.{Known}
 use Rattle.st_words.specs.declared.view.Carried.{Carried}
 use Rattle.st_words.specs.Views.{without_chain}
 use Rattle.st_words.proofs.Lists.{contains_here, contains_later, contains_case, contains_none, filter_in, filter_out, other_true, other_false, map_in}
-use Rattle.st_places.specs.Placing.{AreOnce, cells_of, chain_cells}
+use Rattle.st_seats.specs.Placing.{AreOnce, cells_of, chain_cells}
 
 pub map_out : {X Y : Type 0} (f : X → Y) (xs : List X) (y : Y) → Contains (map f xs) y → (x : X) × Contains xs x × (f x ≡ y)
 map_out {X} {Y} f [] y m = absurd (contains_none y m)

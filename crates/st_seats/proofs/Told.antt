@@ -12,19 +12,17 @@ use Rattle.st_words.specs.Steps.{HasThread, HasChain, HasInHand, IsChild, IsWait
 use Rattle.st_words.specs.Promises.{ShowsOver}
 use Rattle.st_world.specs.World.{World, slot_of}
 use Rattle.st_lists.specs.Listing.{Spot, Nowhere, Held, Readied, Lists}
-use Rattle.st_places.specs.Placing.{OnStack, IsOver, IsTurnSpot, Places}
-use Rattle.st_places.specs.Laws.{ToldLaws}
-use Rattle.st_places.proofs.MovedLists.{map_only}
-use Rattle.st_places.proofs.Seats.{Of, of_one, at_place, turn_there, stack_there, thread_in, has_there, of_thread, turn_spot}
-use Rattle.st_places.proofs.Slots.{held, home_filled, home_told, mail_told}
+use Rattle.st_seats.specs.Placing.{OnStack, IsOver, IsTurnSpot, Places}
+use Rattle.st_seats.specs.Laws.{ToldLaws}
+use Rattle.st_seats.proofs.MovedLists.{map_only}
+use Rattle.st_seats.proofs.Seats.{Of, of_one, at_place, turn_there, stack_there, thread_in, has_there, of_thread, turn_spot}
+use Rattle.st_seats.proofs.Slots.{held, home_filled, home_told, mail_told}
 
 -- what is over shows it
 over_shows : (counter : ℕ → Bool) (state : ℕ → ℕ) (k : Waiting) (c : ℕ) → IsOver counter state k → ShowsOver k c (state c)
 over_shows counter state (waits.Touch e) c h = λ s. sym (ap state s) ∙ h.1
 over_shows counter state (waits.Join e least) c h = λ s. subst (λ (d : ℕ). least ≤ count_in (state d)) s h.1
-over_shows counter state waits.Start c h = tt
-over_shows counter state waits.Ready c h = tt
-over_shows counter state waits.Trapped c h = tt
+over_shows counter state k c h = tt
 
 module _ (x : World) (l : Lists x) (P : Places x l) where
   ready_spot : (w c : ℕ) → Contains (x.view w).ready c → l.spot c ≡ Readied w

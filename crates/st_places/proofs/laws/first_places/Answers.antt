@@ -1,5 +1,0 @@
-use Rattle.st_places.proofs.Firsts as proven
-use Rattle.st_places.proofs.laws.first_places.Goals as goal
-
-pub returns : goal.returns
-returns c = proven.first_places

@@ -1,5 +1,0 @@
-use Rattle.st_places.proofs.Rested as proven
-use Rattle.st_places.proofs.laws.rest_laws.Goals as goal
-
-pub returns : goal.returns
-returns c = proven.rest_laws

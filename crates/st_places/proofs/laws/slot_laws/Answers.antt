@@ -1,5 +1,0 @@
-use Rattle.st_places.proofs.Slots as proven
-use Rattle.st_places.proofs.laws.slot_laws.Goals as goal
-
-pub returns : goal.returns
-returns c = proven.slot_laws

@@ -1,0 +1,9 @@
+pub mod MovedLists
+pub mod Seats
+pub mod Slots
+pub mod Told
+pub mod Rested
+pub mod Changed
+pub mod ChangedSlots
+pub mod Moved
+pub mod Firsts
