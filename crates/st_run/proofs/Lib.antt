@@ -1,1 +1,2 @@
 pub mod RunAsks
+pub mod Opened

@@ -1,5 +1,5 @@
--- When a board over vectors is for a program: PlainIsFor, the rule over the world that its vectors show, with a heap that the heap-frame machine reaches behind it.
-use Rattle.std.specs.Prelude.{◌≡◌, ◌/◌, List, Some}
+-- When a board over vectors is for a program: PlainIsFor, the rule over the world that its vectors show, with a heap that the heap-frame machine reaches behind it; and StaysSized.
+use Rattle.std.specs.Prelude.{◌≡◌, ◌/◌, List, length, Some}
 use Rattle.st_base.specs.declared.limits.Limits.{Limits}
 use Rattle.st_words.specs.declared.view.View.{View}
 use Rattle.st_words.specs.declared.words.Words.{Words}
@@ -20,3 +20,9 @@ pub record PlainIsFor (p : Program) (d : Data) (limits : Limits) (x : Words) (ls
   pub is_first : start p d ≡ Some first
   pub heap : Heap
   pub rule : Rule (meaning p d limits) p d limits (first_heap first) heap (world_of (limits.stack / 8) x ls vs)
+
+-- what keeps it the one that it was: as many workers, cells and words of the stacks, and so, by its sizes, as many words of each kind
+pub record StaysSized (x : Words) (vs : List View) (x' : Words) (vs' : List View) : Type 0 where
+  pub workers : length vs' ≡ length vs
+  pub cells : length x'.owners ≡ length x.owners
+  pub stack : length x'.stack ≡ length x.stack

@@ -1,6 +1,10 @@
 //! Boards for a program.
 //!
-//! `run` has the trait, and what a caller that is generic over such a board owes and has.
+//! - `run` has the trait, whose laws hold for any program, input and limits, and what a caller that is generic over such a board owes and has.
+//! - `plain` has the board over vectors, which is one, and opens it for a program.
+//!
+//! What a program means to a board is `meaning` (`specs/Meanings.antt`), and when a board over vectors is for it `PlainIsFor` (`specs/OfPlain.antt`).
 #![tactic(auto)]
 
+pub mod plain;
 pub mod run;
