@@ -25,9 +25,9 @@ use Rattle.st_world.specs.World.{slot_of, cargo_of}
 use Rattle.st_world.specs.OfPlain.{world_of, reading, reading_cargo}
 use Rattle.st_world.proofs.Opened.{alike}
 use Rattle.st_world.specs.Holders.{InView}
-use Rattle.st_leases.specs.Leasing.{Keeping, IsBare, IsSized, ViewHolds, SlotHolds, Leases}
+use Rattle.st_holders.specs.Leasing.{Keeping, IsBare, IsSized, ViewHolds, SlotHolds, Leases}
 use Rattle.st_leases.specs.Laws.{First}
-use Rattle.st_leases.proofs.Shifts.{some_none, one, view_slot, kept_nothing}
+use Rattle.st_holders.proofs.Shifts.{some_none, one, view_slot, kept_nothing}
 
 -- ---- lists
 

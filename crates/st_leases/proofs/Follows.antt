@@ -1,4 +1,4 @@
--- What follows from the leases: move_laws, held_laws and told_laws. careful_tends: what a careful step keeps of them.
+-- What follows from the leases: move_laws and told_laws. careful_tends: what a careful step keeps of them.
 use Rattle.std.proofs.Common.{◌≡◌, ℕ, ◌^◌, ◌<◌, length, Some, refl, sym, ap, ◌∙◌, subst, arith}
 use Rattle.std.specs.List.{Contains}
 use Rattle.st_base.specs.declared.chain.Frame.{Frame}
@@ -11,13 +11,13 @@ use Rattle.st_words.specs.Careful.{Meaning, Careful}
 use Rattle.st_words.specs.Moves.{MayExport, exporting}
 use Rattle.st_world.specs.Functions.{put}
 use Rattle.st_world.specs.World.{World, slot_of, cargo_of, seen}
-use Rattle.st_world.specs.Holders.{InView, InSlot}
-use Rattle.st_leases.specs.Leasing.{Leasing}
-use Rattle.st_leases.specs.Laws.{Tends, MoveLaws, HeldLaws, ToldLaws}
-use Rattle.st_leases.proofs.Shifts.{one, view_slot, view_nobody}
-use Rattle.st_leases.proofs.Changes.{put_here, is_leased, leased_word}
-use Rattle.st_leases.proofs.Chains.{comes_own, comes_within, comes_whole, comes_inside, comes_fresh, comes_home, comes_some, comes_apart, frame_word}
-use Rattle.st_leases.proofs.Exports.{Exports, exported}
+use Rattle.st_holders.specs.Leasing.{Leasing}
+use Rattle.st_leases.specs.Laws.{Tends, MoveLaws, ToldLaws}
+use Rattle.st_holders.proofs.Held.{in_frame}
+use Rattle.st_holders.proofs.Shifts.{one}
+use Rattle.st_holders.proofs.Changes.{put_here, is_leased, leased_word}
+use Rattle.st_holders.proofs.Chains.{comes_own, comes_within, comes_whole, comes_inside, comes_fresh, comes_home, comes_some, comes_apart}
+use Rattle.st_holders.proofs.Exports.{Exports, exported}
 use Rattle.st_leases.proofs.Steps.{around, quiet_world, the_same, frame_told}
 
 -- ---- moves
@@ -49,36 +49,6 @@ move_laws = record {
   restarts = λ x w carried G. quiet_world x x w _ (the_same x) G (refl, refl, refl) (refl, refl, refl);
   begins = λ x w child parent rest G. quiet_world x x w _ (the_same x) G (refl, refl, refl) (refl, refl, refl);
   exports = exports;
-}
-
--- ---- held words
-
-view_one : (v w : ℕ) → InView v ≡ InView w → v ≡ w
-view_one v w e = cc
-
-slot_one : (y z : Slot) → InSlot y ≡ InSlot z → y ≡ z
-slot_one y z e = cc
-
--- the leased frame in which a word lies
-in_frame : (x : World) (w p : ℕ) (f : Frame) → (G : Leasing x) → IsLeased (x.view w) f → Inside f p → G.keeping.frame p ≡ Some f
-in_frame x w p f G m i = let h = is_leased x.workers x.each x.stack (slot_of x) (cargo_of x) x.view G w f m in ((leased_word x.workers x.each x.stack (slot_of x) (cargo_of x) x.view G (return_place f) f h.0 h.1).all p i).0
-
-gave_up : (x : World) (v w p n : ℕ) (f : Frame) → Leasing x → Contains (x.view v).exported f → x.stack (return_place f) ≡ 0 → Inside f p → kept (x.view w).held p ≡ Some n → ⊥
-gave_up x v w p n f G m z i e =
-    let h = (G.views v).exported f m in
-    let lw = leased_word x.workers x.each x.stack (slot_of x) (cargo_of x) x.view G (return_place f) f h.0 h.1 in
-    view_nobody w (sym ((G.views w).held p n e).1 ∙ ((lw.all p i).1 ∙ lw.given z))
-
-pub held_laws : HeldLaws
-held_laws = record {
-  value = λ x w p n G e. ((G.views w).held p n e).2;
-  value_in_slot = λ x z p n G e. ((G.slots z).has p n e).2;
-  one_view = λ x v w p m n G a b. view_one v w (sym ((G.views v).held p m a).1 ∙ ((G.views w).held p n b).1);
-  one_slot = λ x y z p m n G a b. slot_one y z (sym ((G.slots y).has p m a).1 ∙ ((G.slots z).has p n b).1);
-  not_both = λ x w z p m n G a b. view_slot w z (sym ((G.views w).held p m a).1 ∙ ((G.slots z).has p n b).1);
-  apart = λ x v w p f g G a b i j. one (sym (in_frame x v p f G a i) ∙ in_frame x w p g G b j);
-  apart_in_slot = λ x w p z f g G a b i j. one (sym (in_frame x w p f G a i) ∙ ((frame_word x.workers x.each x.stack (slot_of x) (cargo_of x) x.view G z g p b j).1.all p j).0);
-  given_up = gave_up;
 }
 
 -- ---- answers

@@ -22,11 +22,11 @@ use Rattle.st_words.proofs.Naming.{size_laws}
 use Rattle.st_words.proofs.Looks.{look_laws}
 use Rattle.st_world.specs.Functions.{put}
 use Rattle.st_world.specs.World.{World, slot_of, cargo_of, with_word, with_chain, seen, waking, woken, all_words, Finds, changed, world_after}
-use Rattle.st_leases.specs.Leasing.{IsBare, IsSized, Leases, Leasing}
+use Rattle.st_holders.specs.Leasing.{IsBare, IsSized, Leases, Leasing}
 use Rattle.st_leases.specs.Laws.{Tends, IsVacant}
-use Rattle.st_leases.proofs.Shifts.{one, SameView, SameCargo}
-use Rattle.st_leases.proofs.Changes.{put_here, put_other, slot_case, Stores, GivesUp, TakesBack, TakesIn, PutsOut, Around, AroundSlot, is_leased, quiet, stored, given_up, taken_back}
-use Rattle.st_leases.proofs.Chains.{comes_within, taken, put_out}
+use Rattle.st_holders.proofs.Shifts.{one, SameView, SameCargo}
+use Rattle.st_holders.proofs.Changes.{put_here, put_other, slot_case, Stores, GivesUp, TakesBack, TakesIn, PutsOut, Around, AroundSlot, is_leased, quiet, stored, given_up, taken_back}
+use Rattle.st_holders.proofs.Chains.{comes_within, taken, put_out}
 use Rattle.st_leases.proofs.ViewsAfter.{IsQuiet, same_after, stores_after, zeroes_after, gives_up_after, marks_case, takes_back_after, takes_in_after, puts_out_after}
 
 -- ---- sizes

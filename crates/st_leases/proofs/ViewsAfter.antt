@@ -25,8 +25,8 @@ use Rattle.st_words.proofs.Naming.{store_laws}
 use Rattle.st_words.proofs.Marks.{mark_laws}
 use Rattle.st_words.proofs.Looks.{look_laws}
 use Rattle.st_words.proofs.Puts.{put_laws, among_true, among_back}
-use Rattle.st_leases.proofs.Shifts.{SameView}
-use Rattle.st_leases.proofs.Changes.{Stores, GivesUp, TakesBack, TakesIn, PutsOut}
+use Rattle.st_holders.proofs.Shifts.{SameView}
+use Rattle.st_holders.proofs.Changes.{Stores, GivesUp, TakesBack, TakesIn, PutsOut}
 
 -- ---- steps that move no word and no frame
 

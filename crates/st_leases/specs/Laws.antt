@@ -1,6 +1,5 @@
 -- The laws of the leases, over worlds. Read Kept (each kind of step of a worker keeps them, whatever is answered), MoveLaws (so does what a worker
--- does between steps), HeldLaws (what follows for held words and leased frames) and ToldLaws (what follows for the answers of loads, looks and
--- takes, and for each view).
+-- does between steps) and ToldLaws (what follows for the answers of loads, looks and takes, and for each view).
 use Rattle.std.specs.Prelude.{◌≡◌, ℕ, ◌/◌, ◌<◌, List, length, Option, Some, None}
 use Rattle.std.specs.List.{Contains}
 use Rattle.st_base.specs.declared.chain.Chain.{Chain}
@@ -13,16 +12,16 @@ use Rattle.st_words.specs.declared.view.Known.{Known}
 use Rattle.st_words.specs.declared.view.Carried.{Carried}
 use Rattle.st_words.specs.declared.view.Cargo.{Cargo}
 use Rattle.st_words.specs.declared.view.View.{View}
-use Rattle.st_words.specs.Steps.{Step, StackLoad, Look, SlotTake, SlotPut, Answer, Number, Looked, Took, Can, Inside, return_place, home_of, kept, IsLeased}
+use Rattle.st_words.specs.Steps.{Step, StackLoad, Look, SlotTake, SlotPut, Answer, Number, Looked, Took, Can, return_place, home_of, kept}
 use Rattle.st_words.specs.Views.{Progress, with_progress, Does}
 use Rattle.st_words.specs.Plain.{first_words, first_cargoes, first_views}
 use Rattle.st_words.specs.Promises.{Promises, ComesWhole}
 use Rattle.st_words.specs.Careful.{Writes, MayCarry}
 use Rattle.st_words.specs.Moves.{suspending, giving, restarting, beginning, exporting, MayExport}
 use Rattle.st_words.specs.Leased.{KeepsLeased}
-use Rattle.st_world.specs.World.{World, slot_of, cargo_of, seen, Finds, world_after}
+use Rattle.st_world.specs.World.{World, slot_of, seen, Finds, world_after}
 use Rattle.st_world.specs.OfPlain.{world_of}
-use Rattle.st_leases.specs.Leasing.{Leasing}
+use Rattle.st_holders.specs.Leasing.{Leasing}
 
 -- what a careful step keeps of the leases: no 0 comes into the return word of a leased frame, and a chain goes with leased frames and all their words
 abbrev pub Tends : View → Step → Type 0
@@ -46,19 +45,6 @@ pub record MoveLaws : Type 0 where
   pub restarts : (x : World) (w : ℕ) (carried : Carried) → Leasing x → Leasing (seen w (restarting carried (x.view w)) x)
   pub begins : (x : World) (w : ℕ) (child parent : Known) (rest : List Known) → Leasing x → Leasing (seen w (beginning child parent rest (x.view w)) x)
   pub exports : (x : World) (w : ℕ) (f : Frame) → Leasing x → w < x.workers → MayExport (x.view w) f → Leasing (seen w (exporting f (x.view w)) x)
-
-pub record HeldLaws : Type 0 where
-  -- a held word is what its keeper says, and has one keeper
-  pub value : (x : World) (w p n : ℕ) → Leasing x → kept (x.view w).held p ≡ Some n → x.stack p ≡ n
-  pub value_in_slot : (x : World) (z : Slot) (p n : ℕ) → Leasing x → kept (cargo_of x z).words p ≡ Some n → x.stack p ≡ n
-  pub one_view : (x : World) (v w p m n : ℕ) → Leasing x → kept (x.view v).held p ≡ Some m → kept (x.view w).held p ≡ Some n → v ≡ w
-  pub one_slot : (x : World) (y z : Slot) (p m n : ℕ) → Leasing x → kept (cargo_of x y).words p ≡ Some m → kept (cargo_of x z).words p ≡ Some n → y ≡ z
-  pub not_both : (x : World) (w : ℕ) (z : Slot) (p m n : ℕ) → Leasing x → kept (x.view w).held p ≡ Some m → kept (cargo_of x z).words p ≡ Some n → ⊥
-  -- leased frames are apart, whoever knows of them; those of a chain in a slot too
-  pub apart : (x : World) (v w p : ℕ) (f g : Frame) → Leasing x → IsLeased (x.view v) f → IsLeased (x.view w) g → Inside f p → Inside g p → f ≡ g
-  pub apart_in_slot : (x : World) (w p : ℕ) (z : Slot) (f g : Frame) → Leasing x → IsLeased (x.view w) f → Contains (cargo_of x z).frames g → Inside f p → Inside g p → f ≡ g
-  -- an exported frame whose return word is 0 is held by nobody
-  pub given_up : (x : World) (v w p n : ℕ) (f : Frame) → Leasing x → Contains (x.view v).exported f → x.stack (return_place f) ≡ 0 → Inside f p → kept (x.view w).held p ≡ Some n → ⊥
 
 pub record ToldLaws : Type 0 where
   pub loads : (x : World) (w p n : ℕ) → Leasing x → Can (x.view w) (StackLoad p) → Finds x w (StackLoad p) (Number n) → Promises (x.view w) (StackLoad p) (Number n)

@@ -1,5 +1,5 @@
 //! The leases are kept by all that workers do, and what follows from them: laws without code.
-ghost use Rattle.st_leases.specs.Laws.{Kept, MoveLaws, HeldLaws, ToldLaws, First};
+ghost use Rattle.st_leases.specs.Laws.{Kept, MoveLaws, ToldLaws, First};
 
 /// Each of the kinds of step of a worker keeps the leases, whatever is answered.
 pub fn steps_keep()
@@ -9,11 +9,6 @@ pub fn steps_keep()
 /// What a worker does between its steps keeps them: items, suspending, giving, restarting, beginning a child, exporting a frame.
 pub fn moves_keep()
     ensures { MoveLaws }
-{}
-
-/// A held word has its keeper's value and one keeper; leased frames are apart.
-pub fn held_laws()
-    ensures { HeldLaws }
 {}
 
 /// What loads, looks and takes promise, and what is always so of a view.

@@ -15,10 +15,10 @@ use Rattle.st_world.specs.Functions.{put}
 use Rattle.st_world.specs.OfPlain.{reading}
 use Rattle.st_world.proofs.Functions.{put_here, put_other, put_case}
 use Rattle.st_world.proofs.Opened.{alike, view_part}
-use Rattle.st_lists.specs.Listing.{Spot, Nowhere, Listed, Held, Behind, Readied, Rooted, HandHolds, ReadyHolds, Listing, Rooting, head_by, hands, readies, finders, counters}
+use Rattle.st_spots.specs.Listing.{Spot, Nowhere, Listed, Held, Behind, Readied, Rooted, HandHolds, ReadyHolds, Listing, Rooting, head_by, hands, readies, finders, counters}
 use Rattle.st_lists.specs.Laws.{First}
-use Rattle.st_lists.proofs.Apart.{nowhere_listed, nowhere_held, nowhere_behind, nowhere_readied, rooted_listed, rooted_held, rooted_behind, rooted_readied}
-use Rattle.st_lists.proofs.Lists.{head_zero}
+use Rattle.st_spots.proofs.Apart.{nowhere_listed, nowhere_held, nowhere_behind, nowhere_readied, rooted_listed, rooted_held, rooted_behind, rooted_readied}
+use Rattle.st_spots.proofs.Lists.{head_zero}
 
 -- the root's chain may be found, and no other number is anywhere
 first_spot : ℕ → Spot

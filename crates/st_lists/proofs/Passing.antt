@@ -7,9 +7,9 @@ use Rattle.st_words.specs.declared.view.View.{View}
 use Rattle.st_words.specs.Careful.{IsAtHome}
 use Rattle.st_world.specs.Functions.{put}
 use Rattle.st_world.proofs.Functions.{put_here, put_other}
-use Rattle.st_lists.specs.Listing.{Spot, Held}
+use Rattle.st_spots.specs.Listing.{Spot, Held}
 use Rattle.st_lists.specs.Going.{IsQueued, Stays, Passes}
-use Rattle.st_lists.proofs.Lists.{handed, was}
+use Rattle.st_spots.proofs.Lists.{handed, was}
 
 module _ (spot : ℕ → Spot) (wait : ℕ → Waiting) (w : ℕ) (u : View) where
   pub stays_pass : (spot' : ℕ → Spot) (wait' : ℕ → Waiting) → Stays spot wait spot' wait' → Passes spot wait spot' wait' w u

@@ -13,12 +13,12 @@ use Rattle.st_words.specs.Views.{Progress, with_progress, in_hand, seen_waiting,
 use Rattle.st_world.specs.Functions.{put}
 use Rattle.st_world.specs.World.{World, seen}
 use Rattle.st_world.proofs.Functions.{put_here, put_case}
-use Rattle.st_lists.specs.Listing.{Spot, Nowhere, Held, Readied, Rooted, Listing, Rooting, Lists, hands, readies, finders, counters}
+use Rattle.st_spots.specs.Listing.{Spot, Nowhere, Held, Readied, Rooted, Listing, Rooting, Lists, hands, readies, finders, counters}
 use Rattle.st_lists.specs.Going.{Stays, GoesTo, ComesInto, GoesReady, GoesTaken, GoesPut}
 use Rattle.st_lists.specs.Laws.{IsLast, Having}
-use Rattle.st_lists.proofs.Apart.{held_readied, nowhere_listed, nowhere_held, nowhere_behind, nowhere_readied, rooted_readied, rooted_held, rooted_nowhere}
-use Rattle.st_lists.proofs.InHands.{hand_case, no_number, entry_of, waiter_there}
-use Rattle.st_lists.proofs.Singles as singles
+use Rattle.st_spots.proofs.Apart.{held_readied, nowhere_listed, nowhere_held, nowhere_behind, nowhere_readied, rooted_readied, rooted_held, rooted_nowhere}
+use Rattle.st_spots.proofs.InHands.{hand_case, no_number, entry_of, waiter_there}
+use Rattle.st_spots.proofs.Singles as singles
 use Rattle.st_lists.proofs.ViewsAfter.{same_running}
 use Rattle.st_lists.proofs.Wholes.{part_eq, part_same, rebuilt, root_same, root_put, below_put, quiet_view}
 use Rattle.st_lists.proofs.Words as words

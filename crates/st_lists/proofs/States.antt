@@ -12,14 +12,14 @@ use Rattle.st_words.specs.Views.{Progress, with_progress, followed, without_wait
 use Rattle.st_words.proofs.Lists.{same_true}
 use Rattle.st_world.specs.Functions.{put}
 use Rattle.st_world.specs.World.{World, put_if}
-use Rattle.st_lists.specs.Listing.{Spot, Listed, Held, IsOpen, head_by, Listing, Lists, hands, readies, finders, counters}
+use Rattle.st_spots.specs.Listing.{Spot, Listed, Held, IsOpen, head_by, Listing, Lists, hands, readies, finders, counters}
 use Rattle.st_lists.specs.Going.{Passes}
 use Rattle.st_lists.specs.Laws.{ParksThere, JoinsThere, KnowsKind}
-use Rattle.st_lists.proofs.Apart.{listed_held, rooted_listed}
-use Rattle.st_lists.proofs.Lists.{handed}
-use Rattle.st_lists.proofs.Ranks.{listed_in, listed_here, listed_only}
-use Rattle.st_lists.proofs.Fills as fills
-use Rattle.st_lists.proofs.Parks as parks
+use Rattle.st_spots.proofs.Apart.{listed_held, rooted_listed}
+use Rattle.st_spots.proofs.Lists.{handed}
+use Rattle.st_spots.proofs.Ranks.{listed_in, listed_here, listed_only}
+use Rattle.st_spots.proofs.Fills as fills
+use Rattle.st_spots.proofs.Parks as parks
 use Rattle.st_lists.proofs.Passing as passing
 use Rattle.st_lists.proofs.ViewsAfter.{same_state}
 use Rattle.st_lists.proofs.Wholes.{part_eq, part_same, rebuilt, root_same, root_put, below_put, quiet_view}

@@ -12,7 +12,7 @@ use Rattle.st_words.specs.Steps.{Step, CellLoad, CellStore, CellChange, StopSet,
 use Rattle.st_words.specs.Views.{Progress, with_progress, view_after, in_hand}
 use Rattle.st_words.proofs.Lists.{both_true, same_true}
 use Rattle.st_world.specs.World.{World, seen, with_word, waking, woken, Finds, world_after}
-use Rattle.st_lists.specs.Listing.{Spot, Lists}
+use Rattle.st_spots.specs.Listing.{Spot, Lists}
 use Rattle.st_lists.specs.Going.{Goes}
 use Rattle.st_lists.specs.Laws.{Tends, IsKnown, Having, Staying, Kept}
 use Rattle.st_lists.proofs.Slots as slots

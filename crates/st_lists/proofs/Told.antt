@@ -7,10 +7,10 @@ use native.Mathlib.Decide.{ℕ_discrete}
 use Rattle.st_words.specs.declared.view.Waiter.{Waiter}
 use Rattle.st_words.specs.Encodings.{full_word, is_counter}
 use Rattle.st_world.specs.World.{World}
-use Rattle.st_lists.specs.Listing.{Spot, Listed, Behind, Rooted, IsList, IsTail, Lists, head_by}
+use Rattle.st_spots.specs.Listing.{Spot, Listed, Behind, Rooted, IsList, IsTail, Lists, head_by}
 use Rattle.st_lists.specs.Laws.{ToldLaws}
 use Rattle.st_lists.proofs.States.{future_head}
-use Rattle.st_lists.proofs.Tidies.{held}
+use Rattle.st_spots.proofs.Tidies.{held}
 
 -- a word that leads to a list, whose numbers are below the number of cells
 word_below : (cells : ℕ) (next : ℕ → ℕ) (spot at : ℕ → Spot) (word : ℕ) → ((d k : ℕ) → spot d ≡ at k → d < cells) → IsList next spot at word → word ≤ cells

@@ -9,7 +9,7 @@ use Rattle.st_words.specs.declared.view.View.{View}
 use Rattle.st_world.specs.Functions.{put}
 use Rattle.st_world.specs.World.{World, seen}
 use Rattle.st_world.proofs.Functions.{put_other, put_keeps, put_was, put_all, put_part, put_same, function_same}
-use Rattle.st_lists.specs.Listing.{Spot, Nowhere, Rooted, Listing, Rooting, Numbers, Lists, hands, readies, finders, counters}
+use Rattle.st_spots.specs.Listing.{Spot, Nowhere, Rooted, Listing, Rooting, Numbers, Lists, hands, readies, finders, counters}
 use Rattle.st_lists.specs.Going.{Stays}
 use Rattle.st_lists.specs.Laws.{Staying}
 use Rattle.st_lists.proofs.ViewsAfter.{SameParts}

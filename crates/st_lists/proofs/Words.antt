@@ -14,19 +14,19 @@ use Rattle.st_words.specs.declared.view.Loaded.TheVariants as loads
 use Rattle.st_world.specs.Functions.{put}
 use Rattle.st_world.specs.World.{World, seen, with_word}
 use Rattle.st_world.proofs.Functions.{put_here, put_case, put_all}
-use Rattle.st_lists.specs.Listing.{Spot, Nowhere, Listed, Held, Behind, Readied, Rooted, IsList, IsOpen, head_by, HandHas, Listing, Lists, hands, readies, finders, counters}
+use Rattle.st_spots.specs.Listing.{Spot, Nowhere, Listed, Held, Behind, Readied, Rooted, IsList, IsOpen, head_by, HandHas, Listing, Lists, hands, readies, finders, counters}
 use Rattle.st_lists.specs.Going.{Stays, GoesTo, Passes, GoesRooted}
 use Rattle.st_lists.specs.Laws.{IsLast, Having}
-use Rattle.st_lists.proofs.Apart.{behind_held, rooted_listed, rooted_behind, rooted_readied}
-use Rattle.st_lists.proofs.Lists.{handed, head_zero}
-use Rattle.st_lists.proofs.Ranks.{ranked, ranked_here, ranked_only}
-use Rattle.st_lists.proofs.Handing as handing
-use Rattle.st_lists.proofs.Nexts.{Leads}
-use Rattle.st_lists.proofs.Fills as fills
-use Rattle.st_lists.proofs.Follows as follows
+use Rattle.st_spots.proofs.Apart.{behind_held, rooted_listed, rooted_behind, rooted_readied}
+use Rattle.st_spots.proofs.Lists.{handed, head_zero}
+use Rattle.st_spots.proofs.Ranks.{ranked, ranked_here, ranked_only}
+use Rattle.st_spots.proofs.Handing as handing
+use Rattle.st_spots.proofs.Nexts.{Leads}
+use Rattle.st_spots.proofs.Fills as fills
+use Rattle.st_spots.proofs.Follows as follows
 use Rattle.st_lists.proofs.Passing as passing
-use Rattle.st_lists.proofs.Singles as singles
-use Rattle.st_lists.proofs.InHands.{once_same, leader_case}
+use Rattle.st_spots.proofs.Singles as singles
+use Rattle.st_spots.proofs.InHands.{once_same, leader_case}
 use Rattle.st_lists.proofs.Wholes.{part_eq, part_same, rebuilt, SameRoot, root_same, root_put, below_put, quiet_view}
 
 -- ---- a list is handed out

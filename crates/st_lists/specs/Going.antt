@@ -11,7 +11,7 @@ use Rattle.st_words.specs.Steps.{Step, CellLoad, CellStore, CellChange, RootTake
 use Rattle.st_words.specs.Careful.{IsAtHome}
 use Rattle.st_words.specs.Views.{in_hand}
 use Rattle.st_world.specs.Functions.{put}
-use Rattle.st_lists.specs.Listing.{Spot, Nowhere, Listed, Held, Behind, Readied, Rooted}
+use Rattle.st_spots.specs.Listing.{Spot, Nowhere, Listed, Held, Behind, Readied, Rooted}
 
 -- in a list or a hand
 abbrev pub IsQueued : Spot → Type 0

@@ -1,6 +1,6 @@
 -- The laws of numbers and lists, over worlds. Read Kept (each kind of step of a worker keeps them, whatever is answered, and how the numbers move), MoveLaws (so
--- does what a worker does between steps, and the numbers stay), ViewLaws (what is always so of a view), ToldLaws (what follows for the words that are read, and
--- where the numbers of a view are) and First (a board that is opened).
+-- does what a worker does between steps, and the numbers stay), ToldLaws (what follows for the words that are read, and where the numbers of a view
+-- are) and First (a board that is opened).
 -- Tends is what a careful step keeps of the lists, and IsKnown what others know of it.
 use Rattle.std.specs.Prelude.{◌≡◌, ◌≢◌, ◌⊎◌, ℕ, suc, ◌+◌, ◌/◌, ◌<◌, ◌≤◌, true, false, List, Some, None}
 use Rattle.std.specs.List.{Contains}
@@ -24,7 +24,7 @@ use Rattle.st_words.specs.Promises.{Promises}
 use Rattle.st_words.specs.Moves.{suspending, giving, restarting, beginning, exporting}
 use Rattle.st_world.specs.World.{World, seen, Finds, world_after}
 use Rattle.st_world.specs.OfPlain.{world_of}
-use Rattle.st_lists.specs.Listing.{Spot, Nowhere, Held, Readied, Rooted, Once, Lists}
+use Rattle.st_spots.specs.Listing.{Spot, Nowhere, Held, Readied, Rooted, Lists}
 use Rattle.st_lists.specs.Going.{Stays, Goes}
 
 -- ---- what a careful step keeps of the lists
@@ -83,20 +83,6 @@ pub record MoveLaws : Type 0 where
   pub restarts : (x : World) (l : Lists x) (w : ℕ) (carried : Carried) → Staying x l (seen w (restarting carried (x.view w)) x)
   pub begins : (x : World) (l : Lists x) (w : ℕ) (child parent : Known) (rest : List Known) → Staying x l (seen w (beginning child parent rest (x.view w)) x)
   pub exports : (x : World) (l : Lists x) (w : ℕ) (f : Frame) → Staying x l (seen w (exporting f (x.view w)) x)
-
--- what is always so of a view
-pub record ViewLaws : Type 0 where
-  -- a number is once in a hand, and in no other hand; hands and ready numbers are apart
-  pub once : (x : World) (w : ℕ) → Lists x → Once (x.view w).hand
-  pub one_hand : (x : World) (v w c : ℕ) → Lists x → HasInHand (x.view v) c → HasInHand (x.view w) c → v ≡ w
-  pub one_ready : (x : World) (v w c : ℕ) → Lists x → Contains (x.view v).ready c → Contains (x.view w).ready c → v ≡ w
-  pub apart : (x : World) (v w c : ℕ) → Lists x → Contains (x.view v).ready c → HasInHand (x.view w) c → ⊥
-  -- who found the root's number may take its chain alone, and has it neither in hand nor ready
-  pub one_finder : (x : World) (v w : ℕ) → Lists x → (x.view v).root ≡ true → (x.view w).root ≡ true → v ≡ w
-  pub root_apart : (x : World) (v w : ℕ) → Lists x → (x.view v).root ≡ true → HasInHand (x.view w) 0 ⊎ Contains (x.view w).ready 0 → ⊥
-  pub below : (x : World) (w c : ℕ) → Lists x → w < x.workers → HasInHand (x.view w) c ⊎ Contains (x.view w).ready c → c < (x.view w).cells
-  -- a Next word is stored only after what was behind the waiter is known
-  pub linked : (x : World) (w : ℕ) (y : Waiter) (n : ℕ) → Lists x → Contains (x.view w).hand y → y.next ≡ Some n → y.leads ≡ false
 
 -- what follows for the words that are read, and where the numbers of a view are
 pub record ToldLaws : Type 0 where

@@ -1,5 +1,5 @@
 //! The waiter lists, hands and ready numbers are kept by all that workers do, what follows from them, and how the numbers move: laws without code.
-ghost use Rattle.st_lists.specs.Laws.{Kept, MoveLaws, ViewLaws, ToldLaws, First};
+ghost use Rattle.st_lists.specs.Laws.{Kept, MoveLaws, ToldLaws, First};
 
 /// Each of the kinds of step of a worker keeps them, whatever is answered.
 pub fn kept_by_steps()
@@ -9,11 +9,6 @@ pub fn kept_by_steps()
 /// What a worker does between its steps keeps them, and the numbers stay.
 pub fn moves_keep()
     ensures { MoveLaws }
-{}
-
-/// A number is once in a hand, and in one hand; hands and ready numbers are apart, and below the number of cells.
-pub fn view_laws()
-    ensures { ViewLaws }
 {}
 
 /// Root is found 1 once; the heads of lists are cells; the numbers of a view are where it tells.

@@ -12,7 +12,7 @@ use Rattle.st_words.specs.Views.{Progress, with_progress, view_after}
 use Rattle.st_world.specs.Functions.{put}
 use Rattle.st_world.specs.World.{World, seen, Finds, world_after}
 use Rattle.st_world.proofs.Functions.{put_here, put_other}
-use Rattle.st_lists.specs.Listing.{Spot, Nowhere, Rooted, Lists}
+use Rattle.st_spots.specs.Listing.{Spot, Nowhere, Rooted, Lists}
 use Rattle.st_lists.specs.Going.{IsQueued, Passes, GoesRooted, Goes}
 use Rattle.st_seats.specs.Placing.{Home, InTurn, Places, cells_of}
 use Rattle.st_seats.proofs.MovedLists.{map_out}

@@ -16,7 +16,7 @@ use Rattle.st_words.proofs.Safe.{thread_kind, counter_kind}
 use Rattle.st_world.specs.Functions.{put}
 use Rattle.st_world.specs.World.{World, seen}
 use Rattle.st_world.proofs.Functions.{put_here, put_other}
-use Rattle.st_lists.specs.Listing.{Spot, Lists, counters}
+use Rattle.st_spots.specs.Listing.{Spot, Lists, counters}
 use Rattle.st_lists.specs.Going.{Stays}
 use Rattle.st_seats.specs.Placing.{Place, Gone, Named, InTurn, OnStack, Places, AreOnce, cells_of}
 use Rattle.st_seats.proofs.Seats.{Of, Placed, Holds, ThreadAt, at_place, Begins}

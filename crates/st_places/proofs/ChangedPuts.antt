@@ -19,7 +19,7 @@ use Rattle.st_words.proofs.Puts.{hand_has}
 use Rattle.st_world.specs.Functions.{put}
 use Rattle.st_world.specs.World.{World, seen, with_chain}
 use Rattle.st_world.proofs.Functions.{put_here, put_other}
-use Rattle.st_lists.specs.Listing.{Spot, Nowhere, Held, Lists, counters}
+use Rattle.st_spots.specs.Listing.{Spot, Nowhere, Held, Lists, counters}
 use Rattle.st_lists.specs.Going.{Stays, ComesInto, GoesPut}
 use Rattle.st_seats.specs.Placing.{Place, Home, InMail, InTurn, IsOver, Rests, WaitsFor, IsTurnSpot, Places, cells_of}
 use Rattle.st_seats.proofs.MovedLists.{filter_numbers, filter_rest, filter_once}

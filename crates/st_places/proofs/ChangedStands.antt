@@ -18,7 +18,7 @@ use Rattle.st_words.proofs.Puts.{has_in_hand}
 use Rattle.st_world.specs.Functions.{put}
 use Rattle.st_world.specs.World.{World, seen, waking}
 use Rattle.st_world.proofs.Functions.{put_here, put_other}
-use Rattle.st_lists.specs.Listing.{Spot, Nowhere, Held, Readied, Lists, counters}
+use Rattle.st_spots.specs.Listing.{Spot, Nowhere, Held, Readied, Lists, counters}
 use Rattle.st_lists.specs.Going.{Stays, GoesReady}
 use Rattle.st_seats.specs.Placing.{Place, Gone, Named, Home, IsOver, Rests, WaitsFor, IsTurnSpot, Places, cells_of, chain_cells}
 use Rattle.st_seats.specs.Placing as placing

@@ -16,7 +16,7 @@ use Rattle.st_words.proofs.Lists.{contains_here, contains_later, contains_case, 
 use Rattle.st_world.specs.Functions.{put}
 use Rattle.st_world.specs.World.{World, put_if, seen}
 use Rattle.st_world.proofs.Functions.{put_here, put_other}
-use Rattle.st_lists.specs.Listing.{Spot, Nowhere, Held, Lists, counters}
+use Rattle.st_spots.specs.Listing.{Spot, Nowhere, Held, Lists, counters}
 use Rattle.st_lists.specs.Laws.{KnowsKind}
 use Rattle.st_lists.specs.Going.{Passes}
 use Rattle.st_seats.specs.Placing.{Place, Gone, Named, OnStack, InTurn, Places, AreOnce, cells_of}

@@ -18,7 +18,7 @@ use Rattle.st_words.proofs.Puts.{hand_has}
 use Rattle.st_world.specs.Functions.{put}
 use Rattle.st_world.specs.World.{World, seen, with_chain}
 use Rattle.st_world.proofs.Functions.{put_here, put_other, put_id}
-use Rattle.st_lists.specs.Listing.{Spot, Nowhere, Held, Readied, Rooted, Lists, counters}
+use Rattle.st_spots.specs.Listing.{Spot, Nowhere, Held, Readied, Rooted, Lists, counters}
 use Rattle.st_lists.specs.Going.{Stays, GoesTaken}
 use Rattle.st_seats.specs.Placing.{Place, Home, InMail, InTurn, IsOver, Rests, WaitsFor, IsTurnSpot, Places, cells_of, chain_cells}
 use Rattle.st_seats.proofs.Seats.{Of, Placed, at_place, chain_there, in_slot, Turn, MailAt}

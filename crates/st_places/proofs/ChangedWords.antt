@@ -13,7 +13,7 @@ use Rattle.st_words.specs.Views.{Progress, with_progress, with_trap}
 use Rattle.st_world.specs.Functions.{put}
 use Rattle.st_world.specs.World.{World, seen}
 use Rattle.st_world.proofs.Functions.{put_here, put_other}
-use Rattle.st_lists.specs.Listing.{Spot, Nowhere, Held, Lists}
+use Rattle.st_spots.specs.Listing.{Spot, Nowhere, Held, Lists}
 use Rattle.st_lists.specs.Going.{Stays}
 use Rattle.st_seats.specs.Placing.{Place, Gone, Named, Home, InMail, InTurn, OnStack, IsTurnSpot, Places, AreOnce, cells_of, chain_cells}
 use Rattle.st_seats.proofs.Seats.{Placed, Holds, ThreadAt, at_place, turn_there, Turn, Begins}

@@ -9,7 +9,7 @@ use Rattle.st_words.specs.Steps.{Step, CellStore, CellChange, SlotTake, SlotPut,
 use Rattle.st_words.specs.Careful.{Meaning, Careful}
 use Rattle.st_words.specs.Views.{Progress, with_progress, view_after}
 use Rattle.st_world.specs.World.{World, Finds, world_after}
-use Rattle.st_lists.specs.Listing.{Spot, Lists}
+use Rattle.st_spots.specs.Listing.{Spot, Lists}
 use Rattle.st_lists.specs.Going.{Goes}
 use Rattle.st_seats.specs.Placing.{Places}
 use Rattle.st_places.specs.Steps.{IsKnown, GoesOut, ThreadsGo}

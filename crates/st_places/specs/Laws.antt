@@ -5,7 +5,7 @@ use Rattle.st_words.specs.Steps.{Step, Answer, Can}
 use Rattle.st_words.specs.Views.{Does}
 use Rattle.st_words.specs.Careful.{Meaning, Careful}
 use Rattle.st_world.specs.World.{World, Finds, world_after}
-use Rattle.st_lists.specs.Listing.{Lists}
+use Rattle.st_spots.specs.Listing.{Lists}
 use Rattle.st_lists.specs.Going.{Goes}
 use Rattle.st_seats.specs.Placing.{Places}
 use Rattle.st_places.specs.Steps.{IsKnown, ThreadsGo}

@@ -12,7 +12,7 @@ use Rattle.st_words.specs.Careful.{IsOver as HasSeenOver}
 use Rattle.st_words.specs.Views.{counts_cell, owner_seen}
 use Rattle.st_world.specs.World.{World}
 use Rattle.st_lists.specs.Laws.{KnowsKind}
-use Rattle.st_lists.specs.Listing.{counters}
+use Rattle.st_spots.specs.Listing.{counters}
 use Rattle.st_seats.specs.Placing.{IsOver, cells_of}
 
 -- a cell that is named was not; what the view has seen to be over is over, where a waiter becomes ready; a State word that is changed is of the kind that

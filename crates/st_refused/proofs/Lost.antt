@@ -8,12 +8,12 @@ use Rattle.st_words.specs.declared.view.Waiter.{Waiter}
 use Rattle.st_words.specs.Encodings.{waits_word}
 use Rattle.st_words.proofs.Lists.{contains_here, contains_later, contains_case, contains_none}
 use Rattle.st_world.specs.World.{World}
-use Rattle.st_lists.specs.Listing.{Spot, Nowhere, Listed, Held, Behind, Readied, Rooted, Among, Spells, IsList, HandHas, IsTail, Lists, counters, head_by}
+use Rattle.st_spots.specs.Listing.{Spot, Nowhere, Listed, Held, Behind, Readied, Rooted, Among, Spells, IsList, HandHas, IsTail, Lists, counters, head_by}
 use Rattle.st_lists.specs.Going.{IsQueued}
-use Rattle.st_lists.proofs.Apart.{listed_held, behind_held}
-use Rattle.st_lists.proofs.Nexts.{Leads}
-use Rattle.st_lists.proofs.Tidies.{held}
-use Rattle.st_places.specs.Placing.{Place, Home, InTurn, IsOver, Rests, IsTurnSpot, PlaceHolds, Places}
+use Rattle.st_spots.proofs.Apart.{listed_held, behind_held}
+use Rattle.st_spots.proofs.Nexts.{Leads}
+use Rattle.st_spots.proofs.Tidies.{held}
+use Rattle.st_seats.specs.Placing.{Place, Home, InTurn, IsOver, Rests, IsTurnSpot, PlaceHolds, Places}
 
 -- a word from which a number is reached isn't 0
 pub reached : (next : ℕ → ℕ) (spot at : ℕ → Spot) (word d : ℕ) (es : List ℕ) → Spells next spot at word es → Among d es → word ≢ 0

@@ -15,9 +15,10 @@ use Rattle.st_words.proofs.Lists.{contains_here, contains_none}
 use Rattle.st_world.specs.Functions.{put}
 use Rattle.st_world.specs.World.{World, slot_of, cargo_of, seen, all_words, world_after}
 use Rattle.st_world.proofs.Functions.{put_here, put_other, put_all}
-use Rattle.st_leases.specs.Leasing.{Holder, InView, InSlot, Nobody, Leasing}
-use Rattle.st_leases.proofs.Shifts.{some_none, view_slot, view_nobody, view_other}
-use Rattle.st_leases.proofs.Changes.{is_leased, leased_word}
+use Rattle.st_world.specs.Holders.{Holder, InView, InSlot, Nobody}
+use Rattle.st_holders.specs.Leasing.{Leasing}
+use Rattle.st_holders.proofs.Shifts.{some_none, view_slot, view_nobody, view_other}
+use Rattle.st_holders.proofs.Changes.{is_leased, leased_word}
 use Rattle.st_leases.proofs.ViewsAfter.{stores_after, takes_back_after}
 use Rattle.st_leases.proofs.Steps.{one_each, word_told, frame_told}
 use Rattle.st_requests.specs.Mailing.{Phase, Asks, Answers, Told, PhaseOk, AnswerOk, asks, answers, letters, gifts}

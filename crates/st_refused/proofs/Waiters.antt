@@ -20,13 +20,13 @@ use Rattle.st_words.proofs.Safe.{readied}
 use Rattle.st_world.specs.Functions.{put}
 use Rattle.st_world.specs.World.{World, with_word, waking, seen, world_after, put_if}
 use Rattle.st_world.proofs.Functions.{put_here, put_other, put_all}
-use Rattle.st_lists.specs.Listing.{Spot, Listed, Behind, Among, Spells, HandHas, Lists, counters, head_by}
+use Rattle.st_spots.specs.Listing.{Spot, Listed, Behind, Among, Spells, HandHas, Lists, counters, head_by}
 use Rattle.st_lists.specs.Going.{IsQueued}
-use Rattle.st_lists.proofs.Apart.{listed_held, listed_behind, behind_listed, behind_held}
-use Rattle.st_lists.proofs.Lists.{rest_of}
-use Rattle.st_lists.proofs.Nexts.{Leads, next_was}
-use Rattle.st_lists.proofs.Tidies.{held}
-use Rattle.st_places.specs.Placing.{IsOver, IsTurnSpot, PostHolds, MailHolds}
+use Rattle.st_spots.proofs.Apart.{listed_held, listed_behind, behind_listed, behind_held}
+use Rattle.st_spots.proofs.Lists.{rest_of}
+use Rattle.st_spots.proofs.Nexts.{Leads, next_was}
+use Rattle.st_spots.proofs.Tidies.{held}
+use Rattle.st_seats.specs.Placing.{IsOver, IsTurnSpot, PostHolds, MailHolds}
 use Rattle.st_refused.specs.Refutations.{LeaderLinked, TailUnlinked, TailLost, ending_at, WaiterForgotten, ListedAtFull, WaiterLeft, ReadiedInTurn, WaitsInMail}
 use Rattle.st_refused.proofs.Lost.{reached, tail_of, behind_there, home_queued, head_of, Cut, lost}
 

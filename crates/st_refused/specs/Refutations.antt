@@ -15,12 +15,12 @@ use Rattle.st_words.specs.Steps.{StackStore, Look, CellStore, CellChange, Draw, 
 use Rattle.st_words.specs.Careful.{InHand}
 use Rattle.st_words.specs.Views.{Does, with_next}
 use Rattle.st_world.specs.World.{World, with_word, seen, all_words, world_after}
-use Rattle.st_lists.specs.Listing.{Listed, Behind, Lists, counters}
+use Rattle.st_spots.specs.Listing.{Listed, Behind, Lists, counters}
 use Rattle.st_lists.specs.Going.{IsQueued}
-use Rattle.st_leases.specs.Leasing.{Leasing}
+use Rattle.st_holders.specs.Leasing.{Leasing}
 use Rattle.st_requests.specs.Mailing.{Requests}
 use Rattle.st_counts.specs.Counting.{Counts}
-use Rattle.st_places.specs.Placing.{Places}
+use Rattle.st_seats.specs.Placing.{Places}
 use Rattle.st_draws.specs.Drawing.{Draws}
 use Rattle.st_knows.specs.Knowing.{Knows}
 

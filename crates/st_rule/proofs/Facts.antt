@@ -19,9 +19,9 @@ use Rattle.st_model.specs.Memory.{Data}
 use Rattle.st_model.specs.Heap.{Heap}
 use Rattle.st_made.specs.Runs.{HasSeen}
 use Rattle.st_world.specs.World.{World, slot_of}
-use Rattle.st_lists.specs.Listing.{Held, counters}
+use Rattle.st_spots.specs.Listing.{Held, counters}
 use Rattle.st_lists.specs.Laws.{KnowsKind, IsKnown as ListsKnow}
-use Rattle.st_places.specs.Placing.{IsOver}
+use Rattle.st_seats.specs.Placing.{IsOver}
 use Rattle.st_places.specs.Steps.{IsKnown as PlacesKnow}
 use Rattle.st_leases.specs.Laws.{IsVacant, Tends as LeasesTend}
 use Rattle.st_counts.specs.Laws.{IsWeighed}

@@ -4,15 +4,16 @@ use Rattle.st_lists.proofs.Firsts.{first_lists}
 use Rattle.st_lists.proofs.Steps.{step_kept as lists_kept}
 use Rattle.st_lists.proofs.Moves.{move_laws as lists_moves}
 use Rattle.st_lists.proofs.Told.{told_laws as lists_told}
-use Rattle.st_lists.proofs.Tidies.{view_laws as lists_view}
+use Rattle.st_spots.proofs.Tidies.{view_laws as lists_view}
 use Rattle.st_places.proofs.Kept.{kept as places_kept}
-use Rattle.st_places.proofs.Moved.{move_laws as places_moves}
-use Rattle.st_places.proofs.Slots.{slot_laws}
-use Rattle.st_places.proofs.Told.{told_laws as places_told}
-use Rattle.st_places.proofs.Rested.{rest_laws}
-use Rattle.st_places.proofs.Firsts.{first_places}
+use Rattle.st_seats.proofs.Moved.{move_laws as places_moves}
+use Rattle.st_seats.proofs.Slots.{slot_laws}
+use Rattle.st_seats.proofs.Told.{told_laws as places_told}
+use Rattle.st_seats.proofs.Rested.{rest_laws}
+use Rattle.st_seats.proofs.Firsts.{first_places}
 use Rattle.st_leases.proofs.Steps.{step_kept as leases_kept}
-use Rattle.st_leases.proofs.Follows.{held_laws, move_laws as leases_moves, told_laws as leases_told}
+use Rattle.st_holders.proofs.Held.{held_laws}
+use Rattle.st_leases.proofs.Follows.{move_laws as leases_moves, told_laws as leases_told}
 use Rattle.st_leases.proofs.Firsts.{first_leases}
 use Rattle.st_requests.proofs.Steps.{step_kept as requests_kept}
 use Rattle.st_requests.proofs.Follows.{move_laws as requests_moves, slot_laws as mail_laws, told_laws as requests_told}

@@ -1,8 +1,11 @@
 -- The laws of all groups as one record, which the rule's proofs take.
 use Rattle.st_words.specs.Careful.{Meaning}
-use Rattle.st_lists.specs.Laws.{Kept as ListsKept, MoveLaws as ListsMoves, ViewLaws as ListsView, ToldLaws as ListsTold, First as ListsFirst}
-use Rattle.st_places.specs.Laws.{Kept as PlacesKept, MoveLaws as PlacesMoves, SlotLaws, ToldLaws as PlacesTold, RestLaws, First as PlacesFirst}
-use Rattle.st_leases.specs.Laws.{Kept as LeasesKept, MoveLaws as LeasesMoves, HeldLaws, ToldLaws as LeasesTold, First as LeasesFirst}
+use Rattle.st_spots.specs.Laws.{ViewLaws as ListsView}
+use Rattle.st_lists.specs.Laws.{Kept as ListsKept, MoveLaws as ListsMoves, ToldLaws as ListsTold, First as ListsFirst}
+use Rattle.st_places.specs.Laws.{Kept as PlacesKept}
+use Rattle.st_seats.specs.Laws.{MoveLaws as PlacesMoves, SlotLaws, ToldLaws as PlacesTold, RestLaws, First as PlacesFirst}
+use Rattle.st_holders.specs.Laws.{HeldLaws}
+use Rattle.st_leases.specs.Laws.{Kept as LeasesKept, MoveLaws as LeasesMoves, ToldLaws as LeasesTold, First as LeasesFirst}
 use Rattle.st_requests.specs.Laws.{Kept as RequestsKept, MoveLaws as RequestsMoves, SlotLaws as MailLaws, ToldLaws as RequestsTold, First as RequestsFirst}
 use Rattle.st_counts.specs.Laws.{Kept as CountsKept, MoveLaws as CountsMoves, ToldLaws as CountsTold, NoneLaws, First as CountsFirst}
 use Rattle.st_draws.specs.Laws.{Kept as DrawsKept, MoveLaws as DrawsMoves, ToldLaws as DrawsTold, First as DrawsFirst}

@@ -11,7 +11,7 @@ use Rattle.st_model.specs.Memory.{Data}
 use Rattle.st_model.specs.Heap.{Change}
 use Rattle.st_made.specs.Events.{NoItem, GoesOn, EndsItem, AddsTo, Event, change_event, state_event, future_event, counter_event, owner_event}
 use Rattle.st_counts.specs.Laws.{NoneBegun}
-use Rattle.st_places.specs.Placing.{cells_of}
+use Rattle.st_seats.specs.Placing.{cells_of}
 use Rattle.st_places.specs.Steps.{SameThreads, TopEnds, GoesOut, ThreadsGo}
 
 module _ (program : Program) (source : Data) (u v : View) where

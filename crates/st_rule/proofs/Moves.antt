@@ -16,9 +16,9 @@ use Rattle.st_made.specs.Moves.{OneMove, AllMoves, Begins, MakesItem, MakesFork,
 use Rattle.st_world.specs.Functions.{put}
 use Rattle.st_world.specs.World.{World, seen}
 use Rattle.st_world.proofs.Functions.{put_here, put_other, put_id, function_same}
-use Rattle.st_lists.specs.Listing.{Lists}
-use Rattle.st_places.specs.Placing.{Places, cells_of}
-use Rattle.st_leases.specs.Leasing.{Leasing}
+use Rattle.st_spots.specs.Listing.{Lists}
+use Rattle.st_seats.specs.Placing.{Places, cells_of}
+use Rattle.st_holders.specs.Leasing.{Leasing}
 use Rattle.st_requests.specs.Mailing.{Requests}
 use Rattle.st_counts.specs.Counting.{Counts}
 use Rattle.st_counts.specs.Laws.{NoneBegun}

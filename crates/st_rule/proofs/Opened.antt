@@ -23,10 +23,10 @@ use Rattle.st_made.specs.Runs.{all_known, known_of}
 use Rattle.st_world.specs.World.{World, slot_of, cargo_of}
 use Rattle.st_world.specs.OfPlain.{world_of}
 use Rattle.st_world.proofs.Opened.{home_first, home_other, post_none, cargo_first}
-use Rattle.st_lists.specs.Listing.{Lists}
-use Rattle.st_places.specs.Placing.{Place, InMail, InTurn, OnStack, PlaceHolds, MailHolds, Places}
-use Rattle.st_places.specs.Laws.{IsIdle}
-use Rattle.st_places.proofs.MovedLists.{map_has}
+use Rattle.st_spots.specs.Listing.{Lists}
+use Rattle.st_seats.specs.Placing.{Place, InMail, InTurn, OnStack, PlaceHolds, MailHolds, Places}
+use Rattle.st_seats.specs.Laws.{IsIdle}
+use Rattle.st_seats.proofs.MovedLists.{map_has}
 use Rattle.st_threads.proofs.Lists.{known_case}
 use Rattle.st_rule.specs.Walking.{SlotWalks, Walking}
 use Rattle.st_rule.specs.Rule.{Rule}

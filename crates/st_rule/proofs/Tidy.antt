@@ -9,7 +9,7 @@ use Rattle.st_model.specs.declared.program.Program.{Program}
 use Rattle.st_model.specs.Memory.{Data}
 use Rattle.st_model.specs.Heap.{Heap}
 use Rattle.st_world.specs.World.{World}
-use Rattle.st_lists.specs.Listing.{Once}
+use Rattle.st_spots.specs.Listing.{Once}
 use Rattle.st_rule.specs.Rule.{Rule}
 use Rattle.st_rule.specs.Laws.{RuleTidy}
 use Rattle.st_rule.proofs.Groups.{Groups}

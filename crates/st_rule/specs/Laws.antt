@@ -27,7 +27,7 @@ use Rattle.st_made.specs.Moves.{Made}
 use Rattle.st_made.specs.Events.{Event}
 use Rattle.st_world.specs.World.{World, cargo_of, seen, Finds, world_after}
 use Rattle.st_world.specs.OfPlain.{world_of}
-use Rattle.st_places.specs.Laws.{IsStill, IsIdle}
+use Rattle.st_seats.specs.Laws.{IsStill, IsIdle}
 use Rattle.st_limits.specs.Stopping.{StopMeans}
 use Rattle.st_rule.specs.Rule.{IsMeant, Rule}
 

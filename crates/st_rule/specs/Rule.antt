@@ -13,9 +13,9 @@ use Rattle.st_model.specs.Ordinary.{start}
 use Rattle.st_model.specs.Heap.{Heap, new_thread}
 use Rattle.st_made.specs.Items.{MeansItems}
 use Rattle.st_world.specs.World.{World, slot_of, cargo_of}
-use Rattle.st_lists.specs.Listing.{Lists}
-use Rattle.st_places.specs.Placing.{Places}
-use Rattle.st_leases.specs.Leasing.{Leasing}
+use Rattle.st_spots.specs.Listing.{Lists}
+use Rattle.st_seats.specs.Placing.{Places}
+use Rattle.st_holders.specs.Leasing.{Leasing}
 use Rattle.st_requests.specs.Mailing.{Requests}
 use Rattle.st_counts.specs.Counting.{Counts}
 use Rattle.st_draws.specs.Drawing.{Draws}

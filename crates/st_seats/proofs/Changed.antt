@@ -17,7 +17,7 @@ use Rattle.st_words.specs.Steps.{IsWaiting, IsChild}
 use Rattle.st_world.specs.Functions.{put}
 use Rattle.st_world.specs.World.{World, seen}
 use Rattle.st_world.proofs.Functions.{put_all}
-use Rattle.st_lists.specs.Listing.{Spot, Nowhere, Listed, Held, Behind, Readied, Rooted, counters}
+use Rattle.st_spots.specs.Listing.{Spot, Nowhere, Listed, Held, Behind, Readied, Rooted, counters}
 use Rattle.st_lists.specs.Going.{IsQueued}
 use Rattle.st_seats.specs.Placing.{Place, Gone, Named, Home, InMail, InTurn, OnStack, IsOver, Rests, WaitsFor, IsTurnSpot, AreOnce, cells_of, chain_cells}
 use Rattle.st_seats.proofs.Seats.{Of, Placed, Holds, HoldsHome, ThreadAt, Views, Turn, Stack, Begins, MailAt}

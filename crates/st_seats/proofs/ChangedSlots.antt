@@ -9,7 +9,7 @@ use Rattle.st_words.specs.declared.view.View.{View}
 use Rattle.st_world.specs.Functions.{put}
 use Rattle.st_world.specs.World.{World, seen}
 use Rattle.st_world.proofs.Functions.{put_here, put_other}
-use Rattle.st_lists.specs.Listing.{Spot, Lists}
+use Rattle.st_spots.specs.Listing.{Spot, Lists}
 use Rattle.st_seats.specs.Placing.{Place, Named, InMail, OnStack, Places, AreOnce, cells_of, chain_cells}
 use Rattle.st_seats.proofs.Seats.{Placed, Holds, Turn, MailAt}
 use Rattle.st_seats.proofs.Changed as changed

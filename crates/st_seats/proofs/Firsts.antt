@@ -15,7 +15,7 @@ use Rattle.st_world.specs.World.{World}
 use Rattle.st_world.specs.OfPlain.{world_of, reading}
 use Rattle.st_world.proofs.Functions.{put_all}
 use Rattle.st_world.proofs.Opened.{home_first, home_other, post_none, some_cells, cargo_first, cargo_other, post_cargo_none, alike, led_first, view_part}
-use Rattle.st_lists.specs.Listing.{Spot, Nowhere, Rooted, Lists, counters}
+use Rattle.st_spots.specs.Listing.{Spot, Nowhere, Rooted, Lists, counters}
 use Rattle.st_seats.specs.Placing.{Place, Gone, Home, Rests, WaitsFor, IsOver, AreOnce, cells_of, chain_cells, Places}
 use Rattle.st_seats.specs.Laws.{First}
 use Rattle.st_seats.proofs.Seats.{Holds, HoldsHome, ThreadAt, Views, MailAt}

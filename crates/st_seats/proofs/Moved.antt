@@ -15,7 +15,7 @@ use Rattle.st_words.proofs.Lists.{contains_here, contains_later, contains_case, 
 use Rattle.st_world.specs.Functions.{put}
 use Rattle.st_world.specs.World.{World, seen}
 use Rattle.st_world.proofs.Functions.{put_here, put_other, function_same}
-use Rattle.st_lists.specs.Listing.{Spot, Nowhere, Held, counters}
+use Rattle.st_spots.specs.Listing.{Spot, Nowhere, Held, counters}
 use Rattle.st_lists.specs.Going.{Stays}
 use Rattle.st_seats.specs.Placing.{Place, Named, InTurn, OnStack, IsOver, IsTurnSpot, AreOnce, cells_of, chain_cells}
 use Rattle.st_seats.specs.Laws.{MoveLaws}

@@ -7,7 +7,7 @@ use Rattle.st_words.specs.declared.view.Carried.{Carried}
 use Rattle.st_words.specs.Encodings.{trapped, waits_word}
 use Rattle.st_words.proofs.Lists.{contains_none}
 use Rattle.st_world.specs.World.{World}
-use Rattle.st_lists.specs.Listing.{Spot, Nowhere, Listed, Held, Behind, Readied, Rooted, Lists}
+use Rattle.st_spots.specs.Listing.{Spot, Nowhere, Listed, Held, Behind, Readied, Rooted, Lists}
 use Rattle.st_seats.specs.Placing.{Place, Gone, Named, Home, InMail, InTurn, OnStack, Places, cells_of, chain_cells}
 use Rattle.st_seats.specs.Laws.{IsIdle, IsStill, RestLaws}
 use Rattle.st_seats.proofs.Seats.{at_place}

@@ -12,7 +12,7 @@ use Rattle.st_words.specs.declared.view.View.{View}
 use Rattle.st_words.specs.Views.{no_cargo}
 use Rattle.st_words.specs.Steps.{HasThread, HasChain, IsChild}
 use Rattle.st_world.specs.World.{World}
-use Rattle.st_lists.specs.Listing.{Spot, Nowhere, Held, Readied, Rooted}
+use Rattle.st_spots.specs.Listing.{Spot, Nowhere, Held, Readied, Rooted}
 use Rattle.st_seats.specs.Placing.{Place, Named, Home, InTurn, OnStack, IsOfThread, PlaceHolds, HomeHolds, MailHolds, TurnHolds, StackHolds, ChildHolds, IsTurnSpot, ViewPlaces, Placing, cells_of, chain_cells}
 use Rattle.st_seats.proofs.MovedLists.{map_out, map_has}
 

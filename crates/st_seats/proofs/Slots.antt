@@ -11,7 +11,7 @@ use Rattle.st_words.specs.Views.{no_cargo}
 use Rattle.st_words.specs.Promises.{IsCargoOf, IsInItsCell, IsActive, IsByHand, StandsActive}
 use Rattle.st_words.specs.Careful.{IsAtHome}
 use Rattle.st_world.specs.World.{World, slot_of, cargo_of}
-use Rattle.st_lists.specs.Listing.{Spot, Nowhere, Held, Readied, Rooted, Lists, counters}
+use Rattle.st_spots.specs.Listing.{Spot, Nowhere, Held, Readied, Rooted, Lists, counters}
 use Rattle.st_seats.specs.Placing.{Place, Home, InMail, Rests, WaitsFor, IsOver, MailHolds, PostHolds, Places}
 use Rattle.st_seats.specs.Laws.{SlotLaws}
 use Rattle.st_seats.proofs.Seats.{Of, HoldsHome, at_place, turn_there, of_empty, turn_spot, ready_home, rooted_home, held_home, in_slot}

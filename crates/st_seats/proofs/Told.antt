@@ -11,7 +11,7 @@ use Rattle.st_words.specs.Encodings.{count_in, waits_word}
 use Rattle.st_words.specs.Steps.{HasThread, HasChain, HasInHand, IsChild, IsWaiting}
 use Rattle.st_words.specs.Promises.{ShowsOver}
 use Rattle.st_world.specs.World.{World, slot_of}
-use Rattle.st_lists.specs.Listing.{Spot, Nowhere, Held, Readied, Lists}
+use Rattle.st_spots.specs.Listing.{Spot, Nowhere, Held, Readied, Lists}
 use Rattle.st_seats.specs.Placing.{OnStack, IsOver, IsTurnSpot, Places}
 use Rattle.st_seats.specs.Laws.{ToldLaws}
 use Rattle.st_seats.proofs.MovedLists.{map_only}

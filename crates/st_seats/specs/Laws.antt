@@ -21,7 +21,7 @@ use Rattle.st_words.specs.Careful.{IsAtHome}
 use Rattle.st_words.specs.Moves.{suspending, giving, restarting, beginning, exporting, MaySuspend, MayGive, MayRestart, MayBegin}
 use Rattle.st_world.specs.World.{World, slot_of, cargo_of, seen}
 use Rattle.st_world.specs.OfPlain.{world_of}
-use Rattle.st_lists.specs.Listing.{Nowhere, Listed, Rooted, Lists, counters}
+use Rattle.st_spots.specs.Listing.{Nowhere, Listed, Rooted, Lists, counters}
 use Rattle.st_lists.specs.Going.{Stays}
 use Rattle.st_seats.specs.Placing.{Gone, Home, Places, cells_of}
 

@@ -15,7 +15,7 @@ use Rattle.st_words.specs.Steps.{IsWaiting}
 use Rattle.st_words.specs.Promises.{IsCargoOf, IsGoingOn}
 use Rattle.st_words.specs.Views.{no_cargo}
 use Rattle.st_world.specs.World.{World}
-use Rattle.st_lists.specs.Listing.{Spot, Nowhere, Listed, Held, Behind, Readied, Rooted, Lists, counters}
+use Rattle.st_spots.specs.Listing.{Spot, Nowhere, Listed, Held, Behind, Readied, Rooted, Lists, counters}
 
 -- where the thread of a cell is
 pub data Place : Type 0 where

@@ -3,7 +3,7 @@ use Rattle.std.proofs.Common.{◌≡◌, ◌≢◌, ◌⊎◌, inl, inr, ℕ, su
 use mathlib.Core.Logic.{dite}
 use native.Mathlib.Decide.{ℕ_discrete}
 use Rattle.st_world.specs.Functions.{put}
-use Rattle.st_lists.specs.Listing.{Spot, Held, Behind, Among, Spells, IsList, head_by}
+use Rattle.st_spots.specs.Listing.{Spot, Held, Behind, Among, Spells, IsList, head_by}
 use Rattle.st_world.proofs.Functions.{put_here, put_other}
 
 pub spells_same : (next next' : ℕ → ℕ) (spot spot' at at' : ℕ → Spot) (word : ℕ) (ds : List ℕ) (bound : ℕ) → length ds ≤ bound → ((d k : ℕ) → k < bound → spot d ≡ at k → (spot' d ≡ at' k) × (next' d ≡ next d)) → Spells next spot at word ds → Spells next' spot' at' word ds

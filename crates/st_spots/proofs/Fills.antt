@@ -7,13 +7,13 @@ use Rattle.st_words.specs.declared.view.Waiter.{Waiter}
 use Rattle.st_words.specs.Views.{followed}
 use Rattle.st_words.proofs.Lists.{contains_here, contains_later, contains_case}
 use Rattle.st_world.specs.Functions.{put}
-use Rattle.st_lists.specs.Listing.{Spot, Listed, Held, Behind, Among, Spells, IsList, EntryHolds, HandHolds, Listing, head_by, IsOpen, Alike}
+use Rattle.st_spots.specs.Listing.{Spot, Listed, Held, Behind, Among, Spells, IsList, EntryHolds, HandHolds, Listing, head_by, IsOpen, Alike}
 use Rattle.st_world.proofs.Functions.{put_all}
-use Rattle.st_lists.proofs.Lists.{handed, rest_of}
-use Rattle.st_lists.proofs.Apart.{listed_held, held_listed, behind_listed, readied_listed}
-use Rattle.st_lists.proofs.Untouched.{Mine}
-use Rattle.st_lists.proofs.Ranks.{listed_in, listed_here, listed_only}
-use Rattle.st_lists.proofs.Handing as handing
+use Rattle.st_spots.proofs.Lists.{handed, rest_of}
+use Rattle.st_spots.proofs.Apart.{listed_held, held_listed, behind_listed, readied_listed}
+use Rattle.st_spots.proofs.Untouched.{Mine}
+use Rattle.st_spots.proofs.Ranks.{listed_in, listed_here, listed_only}
+use Rattle.st_spots.proofs.Handing as handing
 
 touch_alike : (e f c : ℕ) → e ≡ c → f ≡ c → Alike (waits.Touch e) (waits.Touch f)
 touch_alike e f c a b q = (λ t. cc, λ t. cc)

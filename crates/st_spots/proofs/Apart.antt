@@ -1,6 +1,6 @@
 -- Spots of two kinds differ.
 use Rattle.std.proofs.Common.{◌≢◌, ℕ, Option}
-use Rattle.st_lists.specs.Listing.{Nowhere, Listed, Held, Behind, Readied, Rooted}
+use Rattle.st_spots.specs.Listing.{Nowhere, Listed, Held, Behind, Readied, Rooted}
 
 pub listed_held : {c k w : ℕ} → Listed c k ≢ Held w
 listed_held e = cc

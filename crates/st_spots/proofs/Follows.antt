@@ -6,14 +6,14 @@ use Rattle.st_base.specs.declared.chain.Waiting.TheVariants as waits
 use Rattle.st_words.specs.declared.view.Waiter.{Waiter}
 use Rattle.st_words.specs.Views.{with_next, common_wait}
 use Rattle.st_world.specs.Functions.{put}
-use Rattle.st_lists.specs.Listing.{Spot, Listed, Held, Behind, Among, Spells, IsList, HandHas, IsTail, EntryHolds, HandHolds, Listing, head_by, Alike}
+use Rattle.st_spots.specs.Listing.{Spot, Listed, Held, Behind, Among, Spells, IsList, HandHas, IsTail, EntryHolds, HandHolds, Listing, head_by, Alike}
 use Rattle.st_world.proofs.Functions.{put_all}
-use Rattle.st_lists.proofs.Lists.{handed, rest_of}
-use Rattle.st_lists.proofs.Apart.{listed_behind, held_listed, held_behind, behind_held, behind_listed, readied_behind}
-use Rattle.st_lists.proofs.Untouched.{Mine}
-use Rattle.st_lists.proofs.Ranks.{ranked, ranked_here, ranked_only}
-use Rattle.st_lists.proofs.Handing as handing
-use Rattle.st_lists.proofs.Nexts.{led, leaves, Leads, NextWas, next_was, next_has, next_new, next_once}
+use Rattle.st_spots.proofs.Lists.{handed, rest_of}
+use Rattle.st_spots.proofs.Apart.{listed_behind, held_listed, held_behind, behind_held, behind_listed, readied_behind}
+use Rattle.st_spots.proofs.Untouched.{Mine}
+use Rattle.st_spots.proofs.Ranks.{ranked, ranked_here, ranked_only}
+use Rattle.st_spots.proofs.Handing as handing
+use Rattle.st_spots.proofs.Nexts.{led, leaves, Leads, NextWas, next_was, next_has, next_new, next_once}
 
 pub alike_back : (a b : Waiting) → Alike a b → Alike b a
 alike_back a b h e = ((h e).1, (h e).0)

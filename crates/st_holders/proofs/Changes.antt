@@ -17,8 +17,8 @@ use Rattle.st_words.specs.Views.{is_inside}
 use Rattle.st_words.proofs.Lists.{inside_case, inside_true, inside_false}
 use Rattle.st_world.specs.Functions.{put}
 use Rattle.st_world.specs.Holders.{Holder, InView, Nobody}
-use Rattle.st_leases.specs.Leasing.{Keeping, LeasedWord, WordHolds, ViewHolds, IsBare, IsSized, Leases}
-use Rattle.st_leases.proofs.Shifts.{some_none, one, view_slot, view_nobody, slot_nobody, view_other, ends, SameView, SameCargo, view_same, assembled}
+use Rattle.st_holders.specs.Leasing.{Keeping, LeasedWord, WordHolds, ViewHolds, IsBare, IsSized, Leases}
+use Rattle.st_holders.proofs.Shifts.{some_none, one, view_slot, view_nobody, slot_nobody, view_other, ends, SameView, SameCargo, view_same, assembled}
 
 pub put_here : {X : Type 0} (f : ℕ → X) (i : ℕ) (x : X) → put f i x i ≡ x
 put_here {X} f i x = ap (λ (b : Bool). cond b x (f i)) (eq-eqb i i refl)

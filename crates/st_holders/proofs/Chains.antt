@@ -10,9 +10,9 @@ use Rattle.st_words.specs.declared.view.View.{View}
 use Rattle.st_words.specs.Steps.{Inside, return_place, place_of, home_of, kept}
 use Rattle.st_words.proofs.Lists.{contains_none}
 use Rattle.st_world.specs.Holders.{InView, InSlot}
-use Rattle.st_leases.specs.Leasing.{Keeping, LeasedWord, WordHolds, SlotHolds, ViewHolds, IsBare, Leases}
-use Rattle.st_leases.proofs.Shifts.{some_none, one, view_slot, view_nobody, slot_nobody, view_other, slot_other, ends, kept_nothing, kept_case, assembled}
-use Rattle.st_leases.proofs.Changes.{slot_case, over, over_some, over_none, TakesIn, PutsOut, AroundSlot, around_slot, leased_word, free_word, is_leased}
+use Rattle.st_holders.specs.Leasing.{Keeping, LeasedWord, WordHolds, SlotHolds, ViewHolds, IsBare, Leases}
+use Rattle.st_holders.proofs.Shifts.{some_none, one, view_slot, view_nobody, slot_nobody, view_other, slot_other, ends, kept_nothing, kept_case, assembled}
+use Rattle.st_holders.proofs.Changes.{slot_case, over, over_some, over_none, TakesIn, PutsOut, AroundSlot, around_slot, leased_word, free_word, is_leased}
 
 module _ (workers each : ℕ) (word : ℕ → ℕ) (chain : Slot → Option Chain) (cargo : Slot → Cargo) (view : ℕ → View) (G : Leases workers each word chain cargo view) where
   lw_at : (p : ℕ) (f : Frame) → p < workers * each → G.keeping.frame p ≡ Some f → LeasedWord (workers * each) each word G.keeping p f

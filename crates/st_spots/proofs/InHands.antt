@@ -6,8 +6,8 @@ use Rattle.st_base.specs.declared.chain.Waiting.TheVariants as waits
 use Rattle.st_words.specs.declared.view.Waiter.{Waiter}
 use Rattle.st_words.specs.Views.{with_next, followed, common_wait, in_hand, without_number, waiter_of}
 use Rattle.st_words.proofs.Lists.{contains_here, contains_later, contains_case, contains_none, both_true, same_true}
-use Rattle.st_lists.specs.Listing.{HandHas, Once}
-use Rattle.st_lists.proofs.Nexts.{Leads}
+use Rattle.st_spots.specs.Listing.{HandHas, Once}
+use Rattle.st_spots.proofs.Nexts.{Leads}
 
 -- one entry for each number
 pub once_same : (h : List Waiter) (x y : Waiter) → Once h → Contains h x → Contains h y → x.cell ≡ y.cell → x ≡ y

@@ -9,9 +9,9 @@ use Rattle.st_words.specs.declared.view.View.{View}
 use Rattle.st_words.specs.Steps.{Inside, return_place, place_of, home_of, kept, IsLeased, Holds}
 use Rattle.st_words.proofs.Lists.{inside_case, contains_here, contains_later, contains_case}
 use Rattle.st_world.specs.Holders.{InView}
-use Rattle.st_leases.specs.Leasing.{Keeping, WordHolds, ViewHolds, Leases}
-use Rattle.st_leases.proofs.Shifts.{one, view_slot, view_nobody, view_other, assembled}
-use Rattle.st_leases.proofs.Changes.{within, within_in, within_out, Around, around_bare, leased_word, free_word, knows}
+use Rattle.st_holders.specs.Leasing.{Keeping, WordHolds, ViewHolds, Leases}
+use Rattle.st_holders.proofs.Shifts.{one, view_slot, view_nobody, view_other, assembled}
+use Rattle.st_holders.proofs.Changes.{within, within_in, within_out, Around, around_bare, leased_word, free_word, knows}
 
 -- the frame lies on the worker's stack; it holds all words of it, the return word isn't 0, and no other leased frame of which it knows overlaps it
 pub record Exports (home : ℕ → ℕ) (w : ℕ) (word : ℕ → ℕ) (f : Frame) (v v' : View) : Type 0 where

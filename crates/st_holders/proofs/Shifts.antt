@@ -11,7 +11,7 @@ use Rattle.st_words.specs.declared.view.Cargo.{Cargo}
 use Rattle.st_words.specs.declared.view.View.{View}
 use Rattle.st_words.specs.Steps.{Inside, return_place, home_of, kept}
 use Rattle.st_world.specs.Holders.{Holder, InView, InSlot, Nobody}
-use Rattle.st_leases.specs.Leasing.{Keeping, WordHolds, SlotHolds, ViewHolds, IsBare, IsSized, Leases}
+use Rattle.st_holders.specs.Leasing.{Keeping, WordHolds, SlotHolds, ViewHolds, IsBare, IsSized, Leases}
 
 pub some_none : {A : Type 0} (x : A) → Some x ≡ None → ⊥
 some_none x e = let no : ⊥ = cc in no

@@ -2,8 +2,8 @@
 use Rattle.std.proofs.Common.{◌≡◌, ⊎_elim, ℕ, ◌<◌, Some, sym, subst}
 use Rattle.st_words.specs.Steps.{HasInHand}
 use Rattle.st_world.specs.World.{World}
-use Rattle.st_lists.specs.Listing.{Held, Lists}
-use Rattle.st_lists.specs.Laws.{ViewLaws}
+use Rattle.st_spots.specs.Listing.{Held, Lists}
+use Rattle.st_spots.specs.Laws.{ViewLaws}
 
 pub held : (x : World) (w c : ℕ) (G : Lists x) → HasInHand (x.view w) c → G.spot c ≡ Held w
 held x w c G h = subst (λ (z : ℕ). G.spot z ≡ Held w) h.2 ((G.listing.hands w).entries h.0 h.1).held

@@ -5,7 +5,7 @@ use Rattle.st_base.specs.declared.chain.Waiting.{Waiting}
 use Rattle.st_words.specs.declared.view.Waiter.{Waiter}
 use Rattle.st_words.specs.Views.{followed, with_next, common_wait}
 use Rattle.st_words.proofs.Lists.{contains_here, contains_later, contains_case, contains_none, both_true, same_true}
-use Rattle.st_lists.specs.Listing.{HandHas, Once}
+use Rattle.st_spots.specs.Listing.{HandHas, Once}
 
 abbrev pub led : Option Waiting → ℕ → Waiter
 led wait e = record { cell = e; wait = wait; next = None; leads = true }

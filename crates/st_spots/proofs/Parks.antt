@@ -5,11 +5,11 @@ use Rattle.st_base.specs.declared.chain.Waiting.{Waiting}
 use Rattle.st_words.specs.declared.view.Waiter.{Waiter}
 use Rattle.st_words.specs.Views.{without_waiter}
 use Rattle.st_world.specs.Functions.{put}
-use Rattle.st_lists.specs.Listing.{Spot, Listed, Held, Behind, IsList, IsTail, EntryHolds, HandHolds, Listing, head_by, IsOpen, Alike}
+use Rattle.st_spots.specs.Listing.{Spot, Listed, Held, Behind, IsList, IsTail, EntryHolds, HandHolds, Listing, head_by, IsOpen, Alike}
 use Rattle.st_world.proofs.Functions.{put_other, put_case, put_keeps, put_was, put_all}
-use Rattle.st_lists.proofs.Lists.{list_cons}
-use Rattle.st_lists.proofs.Apart.{listed_held, listed_behind, listed_readied, held_listed, held_behind, held_readied}
-use Rattle.st_lists.proofs.Untouched.{Mine, once_filter, hand_without, hand_was, entry_stays, hand_stays, untouched_put, list_put, ready_put}
+use Rattle.st_spots.proofs.Lists.{list_cons}
+use Rattle.st_spots.proofs.Apart.{listed_held, listed_behind, listed_readied, held_listed, held_behind, held_readied}
+use Rattle.st_spots.proofs.Untouched.{Mine, once_filter, hand_without, hand_was, entry_stays, hand_stays, untouched_put, list_put, ready_put}
 
 -- a number in the hand that leads nothing goes out of the hand
 pub hand_out : (workers : ℕ) (spot : ℕ → Spot) (wait : ℕ → Waiting) (next : ℕ → ℕ) (w d : ℕ) (s : Spot) (hand : List Waiter) → spot d ≡ Held w → ((v : ℕ) → s ≢ Held v) → ((v m k : ℕ) → s ≢ Behind v m k) → HandHolds workers spot wait next w hand → HandHolds workers (put spot d s) wait next w (without_waiter d hand)

@@ -6,9 +6,9 @@ use Rattle.st_words.specs.declared.view.Waiter.{Waiter}
 use Rattle.st_words.specs.Views.{without_waiter}
 use Rattle.st_words.proofs.Lists.{filter_in, filter_out, other_true, other_false}
 use Rattle.st_world.specs.Functions.{put}
-use Rattle.st_lists.specs.Listing.{Spot, Held, Behind, Readied, IsList, HandHas, Once, IsTail, EntryHolds, HandHolds, ReadyHolds}
+use Rattle.st_spots.specs.Listing.{Spot, Held, Behind, Readied, IsList, HandHas, Once, IsTail, EntryHolds, HandHolds, ReadyHolds}
 use Rattle.st_world.proofs.Functions.{put_keeps, put_was}
-use Rattle.st_lists.proofs.Lists.{list_same}
+use Rattle.st_spots.proofs.Lists.{list_same}
 
 -- ---- hands
 

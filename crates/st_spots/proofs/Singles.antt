@@ -6,12 +6,12 @@ use Rattle.st_words.specs.declared.view.Waiter.{Waiter}
 use Rattle.st_words.specs.Views.{linked, seen_waiting, without_waiter, without_number}
 use Rattle.st_words.proofs.Lists.{contains_here, contains_later, contains_case, contains_none, filter_in, filter_out, other_true, other_false, same_true}
 use Rattle.st_world.specs.Functions.{put}
-use Rattle.st_lists.specs.Listing.{Spot, Nowhere, Listed, Held, Behind, Readied, Rooted, HandHas, Once, IsTail, EntryHolds, HandHolds, ReadyHolds, Listing, head_by, IsOpen, Alike}
+use Rattle.st_spots.specs.Listing.{Spot, Nowhere, Listed, Held, Behind, Readied, Rooted, HandHas, Once, IsTail, EntryHolds, HandHolds, ReadyHolds, Listing, head_by, IsOpen, Alike}
 use Rattle.st_world.proofs.Functions.{put_here, put_other, put_case, put_keeps, put_was, put_all}
-use Rattle.st_lists.proofs.Lists.{list_same}
-use Rattle.st_lists.proofs.Apart.{held_listed, held_behind, held_readied, readied_listed, readied_held, readied_behind, nowhere_listed, nowhere_held, nowhere_behind, nowhere_readied, rooted_listed, rooted_held, rooted_readied}
-use Rattle.st_lists.proofs.Untouched.{Mine, Untouched, entry_stays, hand_stays, untouched_put, list_put, ready_put}
-use Rattle.st_lists.proofs.Parks.{hand_out, none_behind, behind_out}
+use Rattle.st_spots.proofs.Lists.{list_same}
+use Rattle.st_spots.proofs.Apart.{held_listed, held_behind, held_readied, readied_listed, readied_held, readied_behind, nowhere_listed, nowhere_held, nowhere_behind, nowhere_readied, rooted_listed, rooted_held, rooted_readied}
+use Rattle.st_spots.proofs.Untouched.{Mine, Untouched, entry_stays, hand_stays, untouched_put, list_put, ready_put}
+use Rattle.st_spots.proofs.Parks.{hand_out, none_behind, behind_out}
 
 -- ---- entries that are made anew, each with its cell
 

@@ -2,10 +2,10 @@
 use Rattle.std.proofs.Common.{◌≡◌, ◌≢◌, ◌⊎◌, inl, inr, ⊎_elim, ℕ, suc, ◌≤◌, ◌<◌, List, [], ◌∷◌, length, Option, Some, refl, sym, ap, ◌∙◌, subst, arith}
 use Rattle.st_base.specs.declared.chain.Waiting.{Waiting}
 use Rattle.st_words.specs.declared.view.Waiter.{Waiter}
-use Rattle.st_lists.specs.Listing.{Spot, Held, Behind, Readied, Among, Spells, IsList, EntryHolds, HandHolds, ReadyHolds, Alike}
-use Rattle.st_lists.proofs.Lists.{list_same, spells_same, handed, was, at_one, at_tail, at_head}
-use Rattle.st_lists.proofs.Apart.{held_behind, held_readied, behind_held, behind_readied}
-use Rattle.st_lists.proofs.Untouched.{Mine, entry_stays, hand_stays}
+use Rattle.st_spots.specs.Listing.{Spot, Held, Behind, Readied, Among, Spells, IsList, EntryHolds, HandHolds, ReadyHolds, Alike}
+use Rattle.st_spots.proofs.Lists.{list_same, spells_same, handed, was, at_one, at_tail, at_head}
+use Rattle.st_spots.proofs.Apart.{held_behind, held_readied, behind_held, behind_readied}
+use Rattle.st_spots.proofs.Untouched.{Mine, entry_stays, hand_stays}
 
 -- each number of a list has its rank
 pub among_rank : (next : ℕ → ℕ) (spot at : ℕ → Spot) (word : ℕ) (ds : List ℕ) (d : ℕ) → Spells next spot at word ds → Among d ds → (k : ℕ) × (k < length ds) × (spot d ≡ at k)

@@ -1,0 +1,5 @@
+pub mod Shifts
+pub mod Changes
+pub mod Chains
+pub mod Exports
+pub mod Held

@@ -1,5 +1,0 @@
-use Rattle.st_leases.proofs.Follows as proven
-use Rattle.st_leases.proofs.laws.held_laws.Goals as goal
-
-pub returns : goal.returns
-returns c = proven.held_laws

@@ -1,0 +1,12 @@
+pub mod Lists
+pub mod Apart
+pub mod Ranks
+pub mod Untouched
+pub mod Singles
+pub mod Parks
+pub mod Handing
+pub mod Nexts
+pub mod Follows
+pub mod Fills
+pub mod InHands
+pub mod Tidies
