@@ -1,16 +1,11 @@
 -- Which steps change nothing that the requests read of a view: IsQuiet and same_after.
-use Rattle.std.proofs.Common.{◌≡◌, ℕ, zero, suc, Bool, true, false, List, Option, Some, None, refl, ◌==◌, ◌&&◌}
-use Rattle.st_base.specs.declared.chain.Chain.{Chain}
-use Rattle.st_base.specs.declared.chain.Frame.{Frame}
-use Rattle.st_words.specs.declared.view.CellWord.{CellWord}
+use Rattle.std.proofs.Common.{◌≡◌, refl, sym, subst}
 use Rattle.st_words.specs.declared.view.CellWord.TheVariants.{Owner, State, Value, Next, Standing, Trap}
 use Rattle.st_words.specs.declared.view.Slot.TheVariants.{Cell, Mail}
-use Rattle.st_words.specs.declared.view.Cargo.{Cargo}
 use Rattle.st_words.specs.declared.view.View.{View}
-use Rattle.st_words.specs.Encodings.{full_word, head_in, running, ready}
-use Rattle.st_words.specs.Steps.{Step, StackStore, Mark, Look, CellLoad, CellStore, CellChange, Draw, ActiveAdd, ActiveLoad, StopLoad, StopSet, RootTake, RequestChange, MailLoad, MailStore, SlotTake, SlotPut, OutLoad, Answer, Done, Number, Looked, Took}
-use Rattle.st_words.specs.Views as views
-use Rattle.st_words.specs.Views.{view_after, frame_returning, has_number, in_hand}
+use Rattle.st_words.specs.Steps.{Step, CellLoad, CellStore, RequestChange, MailLoad, MailStore, SlotTake, SlotPut, Answer}
+use Rattle.st_words.specs.Views.{view_after}
+use Rattle.st_world.proofs.Untouched.{merged, after_merged}
 
 abbrev pub SameParts : View → View → Type 0
 SameParts u v = (v.asked ≡ u.asked) × (v.answering ≡ u.answering) × (v.mail ≡ u.mail) × (v.given ≡ u.given)
@@ -23,114 +18,25 @@ IsQuiet (SlotTake (Mail at)) = ⊥
 IsQuiet (SlotPut (Mail at) chain cargo) = ⊥
 IsQuiet _ = Prim.Unit
 
-abbrev itself : (v : View) → SameParts v v
-itself v = (refl, refl, refl, refl)
-
-same_owner : (c n : ℕ) (v : View) → SameParts v (views.with_owner c n v)
-same_owner c zero v = itself v
-same_owner c (suc n) v = itself v
-
-same_when : (c n : ℕ) (counts is_full : Bool) (v : View) → SameParts v (views.state_when c n counts is_full v)
-same_when c n true is_full v = itself v
-same_when c n false true v = itself v
-same_when c n false false v = itself v
-
-same_state : (kind : Option Bool) (c n : ℕ) (v : View) → SameParts v (views.with_state_by kind c n v)
-same_state None c n v = itself v
-same_state (Some counter) c n v = same_when c n counter (n == full_word) v
-
-same_value : (c n : ℕ) (b : Bool) (v : View) → SameParts v (views.with_value c n b v)
-same_value c n true v = itself v
-same_value c n false v = itself v
-
-same_seen : (c : ℕ) (word : CellWord) (n : ℕ) (v : View) → SameParts v (views.cell_seen c word n v)
-same_seen c Owner n v = same_owner c n v
-same_seen c State n v = same_state (views.kind_seen c v) c n v
-same_seen c Value n v = same_value c n (has_number v.full c) v
-same_seen c Next n v = itself v
-same_seen c Standing n v = itself v
-same_seen c Trap n v = itself v
-
-same_running : (b : Bool) (c : ℕ) (v : View) → SameParts v (views.made_running b c v)
-same_running true c v = itself v
-same_running false c v = itself v
-
-same_stood : (a b : Bool) (c : ℕ) (v : View) → SameParts v (views.made_ready a c (views.made_running b c v))
-same_stood true b c v = same_running b c v
-same_stood false b c v = same_running b c v
-
-same_stored : (c : ℕ) (word : CellWord) (n : ℕ) (v : View) → SameParts v (views.cell_stored c word n v)
-same_stored c Owner n v = itself v
-same_stored c State n v = itself v
-same_stored c Value n v = itself v
-same_stored c Next n v = itself v
-same_stored c Standing n v = same_stood ((n == ready) && in_hand c v.hand) (n == running) c (record v { chains = views.with_standing c n v.chains })
-same_stored c Trap n v = itself v
-
-same_future : (c old new : ℕ) (b : Bool) (v : View) → SameParts v (views.changed_future c old new b v)
-same_future c old new true v = itself v
-same_future c old new false v = itself v
-
-same_counter : (c old new : ℕ) (b : Bool) (v : View) → SameParts v (views.changed_counter c old new b v)
-same_counter c old new true v = itself v
-same_counter c old new false v = itself v
-
-same_by : (counts : Bool) (c old new : ℕ) (v : View) → SameParts v (views.changed_by counts c old new v)
-same_by true c old new v = same_counter c old new (head_in new == 0) v
-same_by false c old new v = same_future c old new (new == full_word) v
-
-same_changed : (b : Bool) (c old new n : ℕ) (v : View) → SameParts v (views.cell_changed b c old new n v)
-same_changed true c old new n v = same_by (views.counts_cell (views.owner_seen c v.owners)) c old new v
-same_changed false c old new n v = same_state (views.kind_seen c v) c n v
-
-same_active : (n : ℕ) (v : View) → SameParts v (views.with_active n v)
-same_active zero v = itself v
-same_active (suc n) v = itself v
-
-same_stop : (n : ℕ) (v : View) → SameParts v (views.with_stop n v)
-same_stop zero v = itself v
-same_stop (suc n) v = itself v
-
-same_tried : (code n : ℕ) (v : View) → SameParts v (views.stop_tried code n v)
-same_tried code zero v = same_stop code v
-same_tried code (suc n) v = same_stop (suc n) v
-
-same_root : (n : ℕ) (v : View) → SameParts v (views.root_tried n v)
-same_root zero v = itself v
-same_root (suc n) v = itself v
-
-same_back : (p : ℕ) (words : List (Option ℕ)) (f : Option Frame) (v : View) → SameParts v (views.taken_back p words f v)
-same_back p words None v = itself v
-same_back p words (Some f) v = itself v
-
-same_looked : (p n : ℕ) (cargo : Cargo) (v : View) → SameParts v (views.looked p n cargo v)
-same_looked p zero cargo v = same_back p cargo.words (frame_returning p v.exported) v
-same_looked p (suc n) cargo v = itself v
-
-same_took : (c : ℕ) (o : Option Chain) (cargo : Cargo) (v : View) → SameParts v (views.took (Cell c) o cargo v)
-same_took c None cargo v = itself v
-same_took c (Some chain) cargo v = itself v
+merged_same : (s : Step) (x u : View) → IsQuiet s → SameParts u (merged s x u)
+merged_same (RequestChange at old new) x u q = absurd q
+merged_same MailLoad x u q = absurd q
+merged_same (MailStore at n) x u q = absurd q
+merged_same (SlotTake (Cell c)) x u q = (refl, refl, refl, refl)
+merged_same (SlotTake (Mail at)) x u q = absurd q
+merged_same (SlotPut (Cell c) chain cargo) x u q = (refl, refl, refl, refl)
+merged_same (SlotPut (Mail at) chain cargo) x u q = absurd q
+merged_same (CellLoad c Owner) x u q = (refl, refl, refl, refl)
+merged_same (CellLoad c State) x u q = (refl, refl, refl, refl)
+merged_same (CellLoad c Value) x u q = (refl, refl, refl, refl)
+merged_same (CellLoad c Next) x u q = (refl, refl, refl, refl)
+merged_same (CellLoad c word) x u q = (refl, refl, refl, refl)
+merged_same (CellStore c Owner n) x u q = (refl, refl, refl, refl)
+merged_same (CellStore c Value n) x u q = (refl, refl, refl, refl)
+merged_same (CellStore c Next n) x u q = (refl, refl, refl, refl)
+merged_same (CellStore c Standing n) x u q = (refl, refl, refl, refl)
+merged_same (CellStore c Trap n) x u q = (refl, refl, refl, refl)
+merged_same s x u q = (refl, refl, refl, refl)
 
 pub same_after : (u : View) (s : Step) (a : Answer) → IsQuiet s → SameParts u (view_after u s a)
-unfolding view_after
-same_after u (RequestChange at old new) a q = absurd q
-same_after u MailLoad a q = absurd q
-same_after u (MailStore at n) a q = absurd q
-same_after u (SlotTake (Mail at)) a q = absurd q
-same_after u (SlotPut (Mail at) chain cargo) a q = absurd q
-same_after u (StackStore p n) Done q = itself u
-same_after u (Mark p) Done q = itself u
-same_after u (Look p) (Looked n cargo) q = same_looked p n cargo u
-same_after u (SlotTake (Cell c)) (Took o cargo) q = same_took c o cargo u
-same_after u (SlotPut (Cell c) chain cargo) Done q = itself u
-same_after u (CellLoad c word) (Number n) q = same_seen c word n u
-same_after u (CellStore c word n) Done q = same_stored c word n u
-same_after u (CellChange c old new) (Number n) q = same_changed (n == old) c old new n u
-same_after u Draw (Number n) q = itself u
-same_after u (ActiveAdd up) (Number n) q = itself u
-same_after u ActiveLoad (Number n) q = same_active n u
-same_after u StopLoad (Number n) q = same_stop n u
-same_after u (StopSet code) (Number n) q = same_tried code n u
-same_after u RootTake (Number n) q = same_root n u
-same_after u (OutLoad i) (Number n) q = itself u
-same_after u _ a q = itself u
+same_after u s a q = subst (λ (v : View). SameParts u v) (sym (after_merged u s a)) (merged_same s (view_after u s a) u q)

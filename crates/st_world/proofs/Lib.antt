@@ -1,3 +1,4 @@
 pub mod Functions
 pub mod OfPlain
 pub mod Opened
+pub mod Untouched
