@@ -1,1 +1,2 @@
 pub mod Refutations
+pub mod Unbacked

@@ -1,0 +1,5 @@
+use Rattle.st_refused.proofs.Threads as proven
+use Rattle.st_refused.proofs.unbacked.thread_given.Goals as goal
+
+pub returns : goal.returns
+returns c = proven.thread_given
