@@ -1,6 +1,6 @@
 -- Which steps change nothing that the requests read of a view: IsQuiet and same_after.
 use Rattle.std.proofs.Common.{◌≡◌, refl, sym, subst}
-use Rattle.st_words.specs.declared.view.CellWord.TheVariants.{Owner, State, Value, Next, Standing, Trap}
+use Rattle.st_words.specs.declared.view.CellWord.TheVariants.{Owner}
 use Rattle.st_words.specs.declared.view.Slot.TheVariants.{Cell, Mail}
 use Rattle.st_words.specs.declared.view.View.{View}
 use Rattle.st_words.specs.Steps.{Step, CellLoad, CellStore, RequestChange, MailLoad, MailStore, SlotTake, SlotPut, Answer}
@@ -27,15 +27,7 @@ merged_same (SlotTake (Mail at)) x u q = absurd q
 merged_same (SlotPut (Cell c) chain cargo) x u q = (refl, refl, refl, refl)
 merged_same (SlotPut (Mail at) chain cargo) x u q = absurd q
 merged_same (CellLoad c Owner) x u q = (refl, refl, refl, refl)
-merged_same (CellLoad c State) x u q = (refl, refl, refl, refl)
-merged_same (CellLoad c Value) x u q = (refl, refl, refl, refl)
-merged_same (CellLoad c Next) x u q = (refl, refl, refl, refl)
-merged_same (CellLoad c word) x u q = (refl, refl, refl, refl)
 merged_same (CellStore c Owner n) x u q = (refl, refl, refl, refl)
-merged_same (CellStore c Value n) x u q = (refl, refl, refl, refl)
-merged_same (CellStore c Next n) x u q = (refl, refl, refl, refl)
-merged_same (CellStore c Standing n) x u q = (refl, refl, refl, refl)
-merged_same (CellStore c Trap n) x u q = (refl, refl, refl, refl)
 merged_same s x u q = (refl, refl, refl, refl)
 
 pub same_after : (u : View) (s : Step) (a : Answer) → IsQuiet s → SameParts u (view_after u s a)

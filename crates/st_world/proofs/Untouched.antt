@@ -134,17 +134,7 @@ requests true b at old new u = by_bool (λ k. Is (RequestChange at old new) u (v
 -- another answer leaves the view
 itself : (s : Step) (u : View) → Is s u u
 itself (CellLoad c Owner) u = refl
-itself (CellLoad c State) u = refl
-itself (CellLoad c Value) u = refl
-itself (CellLoad c Next) u = refl
-itself (CellLoad c Standing) u = refl
-itself (CellLoad c Trap) u = refl
 itself (CellStore c Owner n) u = refl
-itself (CellStore c State n) u = refl
-itself (CellStore c Value n) u = refl
-itself (CellStore c Next n) u = refl
-itself (CellStore c Standing n) u = refl
-itself (CellStore c Trap n) u = refl
 itself (SlotTake (Cell c)) u = refl
 itself (SlotTake (Mail at)) u = refl
 itself (SlotPut (Cell c) chain cargo) u = refl
