@@ -1,22 +1,19 @@
 -- What each kind of step does to the frames and the held words of a view, as the changes want it: same_after (a step that moves none), and stores_after,
 -- zeroes_after, gives_up_after, takes_back_after, takes_in_after and puts_out_after.
-use Rattle.std.proofs.Common.{◌≡◌, ◌≢◌, ◌⊎◌, inl, inr, ⊎_elim, ℕ, zero, suc, ◌<◌, Bool, true, false, not, List, [], ◌∷◌, ◌++◌, length, Option, Some, None, refl, sym, ap, ◌∙◌, subst, ◌==◌, ◌&&◌}
+use Rattle.std.proofs.Common.{◌≡◌, ◌≢◌, ◌⊎◌, inl, inr, ⊎_elim, ℕ, ◌<◌, Bool, true, false, not, List, [], ◌∷◌, ◌++◌, length, Option, Some, refl, sym, ap, ◌∙◌, subst, ◌==◌}
 use Rattle.std.specs.List.{Contains}
 use Rattle.std.proofs.lemmas.List.Elements.{Contains-append_left, Contains-append_right, Contains-append_cases}
 use mathlib.Core.Logic.{dite}
 use native.Mathlib.Decide.{ℕ_discrete}
 use Rattle.st_base.specs.declared.chain.Chain.{Chain}
 use Rattle.st_base.specs.declared.chain.Frame.{Frame}
-use Rattle.st_words.specs.declared.view.CellWord.{CellWord}
-use Rattle.st_words.specs.declared.view.CellWord.TheVariants.{Owner, State, Value, Next, Standing, Trap}
+use Rattle.st_words.specs.declared.view.CellWord.TheVariants.{Owner}
 use Rattle.st_words.specs.declared.view.Slot.{Slot}
 use Rattle.st_words.specs.declared.view.Slot.TheVariants.{Cell, Mail}
 use Rattle.st_words.specs.declared.view.Cargo.{Cargo}
 use Rattle.st_words.specs.declared.view.View.{View}
-use Rattle.st_words.specs.Encodings.{full_word, head_in, running, ready}
-use Rattle.st_words.specs.Steps.{Step, StackStore, Mark, Look, CellLoad, CellStore, CellChange, Draw, ActiveAdd, ActiveLoad, StopLoad, StopSet, RootTake, RequestChange, MailLoad, MailStore, SlotTake, SlotPut, OutLoad, Answer, Done, Number, Looked, Inside, return_place, home_of, kept, Holds, IsLeased}
-use Rattle.st_words.specs.Views as views
-use Rattle.st_words.specs.Views.{Progress, with_progress, view_after, held_and, first_word, foreign, slot_taken, is_among, has_number, in_hand}
+use Rattle.st_words.specs.Steps.{Step, StackStore, Mark, Look, CellLoad, CellStore, SlotTake, SlotPut, Answer, Done, Looked, Inside, return_place, home_of, kept, Holds, IsLeased}
+use Rattle.st_words.specs.Views.{Progress, with_progress, view_after, held_and, first_word, foreign, slot_taken, is_among}
 use Rattle.st_words.specs.Promises.{Promises}
 use Rattle.st_words.specs.Careful.{MayCarry}
 use Rattle.st_words.specs.Laws.{OneEach, taking, putting}
@@ -25,6 +22,7 @@ use Rattle.st_words.proofs.Naming.{store_laws}
 use Rattle.st_words.proofs.Marks.{mark_laws}
 use Rattle.st_words.proofs.Looks.{look_laws}
 use Rattle.st_words.proofs.Puts.{put_laws, among_true, among_back}
+use Rattle.st_world.proofs.Untouched.{merged, after_merged}
 use Rattle.st_holders.proofs.Shifts.{SameView}
 use Rattle.st_holders.proofs.Changes.{Stores, GivesUp, TakesBack, TakesIn, PutsOut}
 
@@ -38,127 +36,19 @@ IsQuiet (SlotTake slot) = ⊥
 IsQuiet (SlotPut slot chain cargo) = ⊥
 IsQuiet _ = Prim.Unit
 
-abbrev itself : (v : View) → SameView v v
-itself v = (refl, refl, refl)
-
-same_owner : (c n : ℕ) (v : View) → SameView v (views.with_owner c n v)
-same_owner c zero v = itself v
-same_owner c (suc n) v = itself v
-
-same_when : (c n : ℕ) (counts is_full : Bool) (v : View) → SameView v (views.state_when c n counts is_full v)
-same_when c n true is_full v = itself v
-same_when c n false true v = itself v
-same_when c n false false v = itself v
-
-same_state : (kind : Option Bool) (c n : ℕ) (v : View) → SameView v (views.with_state_by kind c n v)
-same_state None c n v = itself v
-same_state (Some counter) c n v = same_when c n counter (n == full_word) v
-
-same_value : (c n : ℕ) (b : Bool) (v : View) → SameView v (views.with_value c n b v)
-same_value c n true v = itself v
-same_value c n false v = itself v
-
-same_seen : (c : ℕ) (word : CellWord) (n : ℕ) (v : View) → SameView v (views.cell_seen c word n v)
-same_seen c Owner n v = same_owner c n v
-same_seen c State n v = same_state (views.kind_seen c v) c n v
-same_seen c Value n v = same_value c n (has_number v.full c) v
-same_seen c Next n v = itself v
-same_seen c Standing n v = itself v
-same_seen c Trap n v = itself v
-
-same_running : (b : Bool) (c : ℕ) (v : View) → SameView v (views.made_running b c v)
-same_running true c v = itself v
-same_running false c v = itself v
-
-same_stood : (a b : Bool) (c : ℕ) (v : View) → SameView v (views.made_ready a c (views.made_running b c v))
-same_stood true b c v = same_running b c v
-same_stood false b c v = same_running b c v
-
-same_stored : (c : ℕ) (word : CellWord) (n : ℕ) (v : View) → SameView v (views.cell_stored c word n v)
-same_stored c Owner n v = itself v
-same_stored c State n v = itself v
-same_stored c Value n v = itself v
-same_stored c Next n v = itself v
-same_stored c Standing n v = same_stood ((n == ready) && in_hand c v.hand) (n == running) c (record v { chains = views.with_standing c n v.chains })
-same_stored c Trap n v = itself v
-
-same_future : (c old new : ℕ) (b : Bool) (v : View) → SameView v (views.changed_future c old new b v)
-same_future c old new true v = itself v
-same_future c old new false v = itself v
-
-same_counter : (c old new : ℕ) (b : Bool) (v : View) → SameView v (views.changed_counter c old new b v)
-same_counter c old new true v = itself v
-same_counter c old new false v = itself v
-
-same_by : (counts : Bool) (c old new : ℕ) (v : View) → SameView v (views.changed_by counts c old new v)
-same_by true c old new v = same_counter c old new (head_in new == 0) v
-same_by false c old new v = same_future c old new (new == full_word) v
-
-same_changed : (b : Bool) (c old new n : ℕ) (v : View) → SameView v (views.cell_changed b c old new n v)
-same_changed true c old new n v = same_by (views.counts_cell (views.owner_seen c v.owners)) c old new v
-same_changed false c old new n v = same_state (views.kind_seen c v) c n v
-
-same_active : (n : ℕ) (v : View) → SameView v (views.with_active n v)
-same_active zero v = itself v
-same_active (suc n) v = itself v
-
-same_stop : (n : ℕ) (v : View) → SameView v (views.with_stop n v)
-same_stop zero v = itself v
-same_stop (suc n) v = itself v
-
-same_tried : (code n : ℕ) (v : View) → SameView v (views.stop_tried code n v)
-same_tried code zero v = same_stop code v
-same_tried code (suc n) v = same_stop (suc n) v
-
-same_root : (n : ℕ) (v : View) → SameView v (views.root_tried n v)
-same_root zero v = itself v
-same_root (suc n) v = itself v
-
-same_own : (old new : ℕ) (v : View) → SameView v (views.own_request old new v)
-same_own old zero v = itself v
-same_own old (suc new) v = itself v
-
-same_other : (at new : ℕ) (v : View) → SameView v (views.other_request at new v)
-same_other at zero v = itself v
-same_other at (suc new) v = itself v
-
-same_request : (b : Bool) (at old new : ℕ) (v : View) → SameView v (views.request_by b at old new v)
-same_request true at old new v = same_own old new v
-same_request false at old new v = same_other at new v
-
-same_requested : (b : Bool) (at old new : ℕ) (v : View) → SameView v (views.requested b at old new v)
-same_requested true at old new v = same_request (at == v.number) at old new v
-same_requested false at old new v = itself v
-
-same_mail : (b : Bool) (n : ℕ) (v : View) → SameView v (views.mail_when b n v)
-same_mail true n v = itself v
-same_mail false n v = itself v
-
-same_sent : (b : Bool) (n : ℕ) (v : View) → SameView v (views.mail_sent b n v)
-same_sent true n v = itself v
-same_sent false n v = itself v
+-- words and slots are told apart, since merged goes by them
+merged_same : (s : Step) (x u : View) → IsQuiet s → SameView u (merged s x u)
+merged_same (StackStore p n) x u q = absurd q
+merged_same (Mark p) x u q = absurd q
+merged_same (Look p) x u q = absurd q
+merged_same (SlotTake slot) x u q = absurd q
+merged_same (SlotPut slot chain cargo) x u q = absurd q
+merged_same (CellLoad c Owner) x u q = (refl, refl, refl)
+merged_same (CellStore c Owner n) x u q = (refl, refl, refl)
+merged_same s x u q = (refl, refl, refl)
 
 pub same_after : (u : View) (s : Step) (a : Answer) → IsQuiet s → SameView u (view_after u s a)
-unfolding view_after
-same_after u (StackStore p n) a q = absurd q
-same_after u (Mark p) a q = absurd q
-same_after u (Look p) a q = absurd q
-same_after u (SlotTake slot) a q = absurd q
-same_after u (SlotPut slot chain cargo) a q = absurd q
-same_after u (CellLoad c word) (Number n) q = same_seen c word n u
-same_after u (CellStore c word n) Done q = same_stored c word n u
-same_after u (CellChange c old new) (Number n) q = same_changed (n == old) c old new n u
-same_after u Draw (Number n) q = itself u
-same_after u (ActiveAdd up) (Number n) q = itself u
-same_after u ActiveLoad (Number n) q = same_active n u
-same_after u StopLoad (Number n) q = same_stop n u
-same_after u (StopSet code) (Number n) q = same_tried code n u
-same_after u RootTake (Number n) q = same_root n u
-same_after u (RequestChange at old new) (Number n) q = same_requested (n == old) at old new u
-same_after u MailLoad (Number n) q = same_mail _ n u
-same_after u (MailStore at n) Done q = same_sent (at == u.number) n u
-same_after u (OutLoad i) (Number n) q = itself u
-same_after u _ a q = itself u
+same_after u s a q = subst (λ (v : View). SameView u v) (sym (after_merged u s a)) (merged_same s (view_after u s a) u q)
 
 -- ---- stores and marks
 
