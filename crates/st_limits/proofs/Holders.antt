@@ -1,8 +1,6 @@
 -- A thread has one holder: keeper_is, one_view, not_slot, and same_top among the threads of a worker.
-use Rattle.std.proofs.Common.{◌≡◌, ◌≢◌, ◌⊎◌, ⊎_elim, ℕ, ◌≤◌, Bool, cond, List, ◌∷◌, ◌++◌, Option, Some, sym, ap, ◌∙◌, subst, arith, ne_eqb, eq-eqb}
+use Rattle.std.proofs.Common.{◌≡◌, ◌⊎◌, ⊎_elim, ℕ, List, ◌∷◌, ◌++◌, Option, Some, sym, ap, ◌∙◌, subst, arith}
 use Rattle.std.specs.List.{Contains}
-use mathlib.Core.Logic.{dite}
-use native.Mathlib.Decide.{ℕ_discrete}
 use Rattle.st_base.specs.declared.chain.Chain.{Chain}
 use Rattle.st_words.specs.declared.view.Slot.{Slot}
 use Rattle.st_words.specs.declared.view.Known.{Known}
@@ -12,35 +10,17 @@ use Rattle.st_words.proofs.Lists.{contains_here, contains_case}
 use Rattle.st_model.specs.Heap.{Heap, steps_of}
 use Rattle.st_made.specs.Runs.{all_known, known_of, paths_of}
 use Rattle.st_made.proofs.Lists.{times_here, known_here}
-use Rattle.st_world.specs.Holders.{Holder, InView, InSlot, Nobody}
-use Rattle.st_threads.specs.Holding.{times, IsOf, SlotHas, HasThreadOf, Holding}
-
-times_some : (k : Holder) (w : ℕ) → 1 ≤ times k w → k ≡ InView w
-times_some (InView v) w l = dite (ℕ_discrete v w)
-    (λ (e : v ≡ w). ap InView e)
-    (λ (n : v ≢ w). let z : times (InView v) w ≡ 0 = ap (λ (b : Bool). cond b 1 0) (ne_eqb v w n) in let no : ⊥ = omega (arith, l, z) in absurd no)
-times_some (InSlot z) w l = let no : ⊥ = omega (arith, l) in absurd no
-times_some Nobody w l = let no : ⊥ = omega (arith, l) in absurd no
-
-times_most : (k : Holder) (w : ℕ) → times k w ≤ 1
-times_most (InView v) w = dite (ℕ_discrete v w)
-    (λ (e : v ≡ w). let z : times (InView v) w ≡ 1 = ap (λ (b : Bool). cond b 1 0) (eq-eqb v w e) in omega (arith, z))
-    (λ (n : v ≢ w). let z : times (InView v) w ≡ 0 = ap (λ (b : Bool). cond b 1 0) (ne_eqb v w n) in omega (arith, z))
-times_most (InSlot z) w = omega arith
-times_most Nobody w = omega arith
+use Rattle.st_world.specs.Holders.{InView}
+use Rattle.st_threads.specs.Holding.{IsOf, SlotHas, HasThreadOf, Holding}
+use Rattle.st_threads.proofs.Keepers.{times_most, kept_by}
+use Rattle.st_threads.proofs.Holdings.{slot_not_view}
 
 same_view : (v w : ℕ) → InView v ≡ InView w → v ≡ w
 same_view v w e = cc
 
-view_slot : (w : ℕ) (z : Slot) → InView w ≡ InSlot z → ⊥
-view_slot w z e = let no : ⊥ = cc in no
-
 module _ (h : Heap) (slot : Slot → Option Chain) (cargo : Slot → Cargo) (view : ℕ → View) (T : Holding h slot cargo view) where
   pub keeper_is : (w : ℕ) (t : Known) → Contains (all_known (view w)) t → T.keeper t.path ≡ InView w
-  keeper_is w t m =
-      let a = known_here (all_known (view w)) t m in
-      let b = (T.views w).once t.path in
-      times_some (T.keeper t.path) w (omega (arith, a, b))
+  keeper_is w t m = kept_by h T.keeper w (all_known (view w)) t (T.views w) m
 
   pub one_view : (v w : ℕ) (t s : Known) → Contains (all_known (view v)) t → Contains (all_known (view w)) s → t.path ≡ s.path → v ≡ w
   one_view v w t s m n e = same_view v w (sym (keeper_is v t m) ∙ (ap T.keeper e ∙ keeper_is w s n))
@@ -48,7 +28,7 @@ module _ (h : Heap) (slot : Slot → Option Chain) (cargo : Slot → Cargo) (vie
   pub not_slot : (w : ℕ) (z : Slot) (b : Chain) (t : Known) → Contains (all_known (view w)) t → slot z ≡ Some b → t.path ≡ (cargo z).carried.known.path → ⊥
   not_slot w z b t m e same =
       let has : HasThreadOf h T.keeper z (cargo z).carried.known = subst (λ (o : Option Chain). SlotHas h T.keeper z o (cargo z)) e (T.slots z) in
-      view_slot w z (sym (keeper_is w t m) ∙ (ap T.keeper same ∙ has.holds))
+      slot_not_view z w (sym has.holds ∙ (ap T.keeper (sym same) ∙ keeper_is w t m))
 
   -- the first thread of a worker
   module _ (w : ℕ) (top : Known) (below : List Known) (is : (view w).threads ≡ top ∷ below) where

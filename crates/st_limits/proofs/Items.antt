@@ -24,8 +24,9 @@ use Rattle.st_made.specs.Runs.{all_known}
 use Rattle.st_made.proofs.MadeRuns.{at_once}
 use Rattle.st_threads.specs.Behind.{heap_on, Rests, Ends, Goes, future_behind, counter_behind, state_behind, change_behind, owner_behind}
 use Rattle.st_threads.specs.Holding.{Threads}
+use Rattle.st_threads.proofs.ViewsAfter.{SameTurn}
 use Rattle.st_limits.specs.Stopping.{IsBegun, HasPending, DrawsFor, StopMeans, Limiting, Within}
-use Rattle.st_limits.proofs.ViewsAfter.{SamePending, SameTurn, SameView}
+use Rattle.st_limits.proofs.ViewsAfter.{SamePending, SameView}
 use Rattle.st_limits.proofs.Changes as changes
 use Rattle.st_limits.proofs.Parts.{top_case, begun_here, begun_else, not_drawing}
 

@@ -26,7 +26,7 @@ use Rattle.st_threads.specs.Holding.{Threads}
 use Rattle.st_threads.specs.Laws.{AreSingle}
 use Rattle.st_limits.specs.Stopping.{HasPending, DrawsFor, Limiting, Within}
 use Rattle.st_limits.specs.Laws.{MovesKept}
-use Rattle.st_limits.proofs.Turns.{known_case, top_above}
+use Rattle.st_limits.proofs.Turns.{turn_case, top_above}
 use Rattle.st_limits.proofs.Changes as changes
 use Rattle.st_limits.proofs.Parts.{begun_here, begun_else, not_drawing}
 
@@ -95,7 +95,7 @@ module _ (program : Program) (source : Data) (limits : Limits) (h0 h : Heap) (x 
       let same : y_known b.chain ≡ t = ap y_known (sym (single k.0 b.chain k.1 b.may.carried k.3)) ∙ k.2 in
       subst (λ (z : Known). Contains (b.chain.known ∷ left) z) same (contains_here b.chain.known left))
       (λ (n : Contains left t). contains_later t b.chain.known left n)
-      (known_case c u.chains t (subst (λ (ts : List Known). Contains ts t) is m))))
+      (turn_case c u.chains t (subst (λ (ts : List Known). Contains ts t) is m))))
       (λ some P k. absurd (subst (λ (ts : List Known). TopIs ts P) b.may.none k))
     where
       y_known : Carried → Known

@@ -1,5 +1,5 @@
 -- Each careful step keeps that the numbers of workers are within the run: step_kept.
-use Rattle.std.proofs.Common.{◌≡◌, ◌⊎◌, inl, inr, ⊎_elim, ℕ, ◌<◌, ◌==◌, ◌&&◌, List, Option, Some, None, refl, sym, ap, ◌∙◌, subst}
+use Rattle.std.proofs.Common.{◌⊎◌, inl, inr, ⊎_elim, ℕ, ◌<◌, ◌==◌, ◌&&◌, List, Option, Some, None, sym, ap, ◌∙◌, subst}
 use Rattle.st_base.specs.declared.chain.Chain.{Chain}
 use Rattle.st_base.specs.declared.limits.Limits.{Limits}
 use Rattle.st_words.specs.declared.view.CellWord.TheVariants.{Owner, Standing}
@@ -10,7 +10,7 @@ use Rattle.st_words.specs.declared.view.Cargo.{Cargo}
 use Rattle.st_words.specs.declared.view.View.{View}
 use Rattle.st_words.specs.Encodings.{is_counter, ready}
 use Rattle.st_words.specs.Steps.{Step, CellStore, CellChange, Draw, StopSet, RequestChange, OutStore, SlotTake, SlotPut, Answer, Done, Number, Looked, Took, Can}
-use Rattle.st_words.specs.Views.{view_after, Does, in_hand, without_chain, took, slot_put, no_cargo}
+use Rattle.st_words.specs.Views.{view_after, Does, in_hand, no_cargo}
 use Rattle.st_words.specs.Plain.{stopped}
 use Rattle.st_words.specs.Careful.{Meaning, TopIs, Careful}
 use Rattle.st_model.specs.declared.program.Program.{Program}
@@ -23,9 +23,10 @@ use Rattle.st_made.specs.Events.{PrintsWord}
 use Rattle.st_made.specs.Runs.{known_of}
 use Rattle.st_threads.specs.Behind.{Rests, owner_behind, StepBehind}
 use Rattle.st_threads.specs.Holding.{Threads}
+use Rattle.st_threads.proofs.ViewsAfter.{put_chains}
 use Rattle.st_limits.specs.Stopping.{MeansLimits, Limiting, Within}
 use Rattle.st_limits.specs.Laws.{IsKnown, Kept}
-use Rattle.st_limits.proofs.ViewsAfter.{SameView, IsQuiet, same_after}
+use Rattle.st_limits.proofs.ViewsAfter.{SameView, IsQuiet, pending_after, same_after}
 use Rattle.st_limits.proofs.Parts.{top_case}
 use Rattle.st_limits.proofs.Stops.{stop_means}
 use Rattle.st_limits.proofs.Items.{rests, goes_quiet, by_change, by_owner, by_draw, by_stop, stopped_means}
@@ -41,31 +42,17 @@ module _ (program : Program) (source : Data) (limits : Limits) (h0 h h' : Heap) 
   abbrev After : View → Type 0
   After v = On h' (slot_of x) (cargo_of x) v
 
-  -- ---- what becomes of a view
-
-  put_parts : (slot : Slot) (chain : Chain) (cargo : Cargo) → let y = slot_put slot chain cargo u in (y.drawn ≡ u.drawn) × (y.child ≡ u.child) × (y.chains ≡ without_chain chain.cell u.chains)
-  put_parts (Cell c) chain cargo = (refl, refl, refl)
-  put_parts (Mail at) chain cargo = (refl, refl, refl)
-
-  took_parts : (slot : Slot) (o : Option Chain) (cargo : Cargo) → let y = took slot o cargo u in (y.drawn ≡ u.drawn) × (y.child ≡ u.child)
-  took_parts (Cell c) None cargo = (refl, refl)
-  took_parts (Cell c) (Some chain) cargo = (refl, refl)
-  took_parts (Mail at) None cargo = (refl, refl)
-  took_parts (Mail at) (Some chain) cargo = (refl, refl)
-
-  -- ---- each kind
-
   took_view : (slot : Slot) (o : Option Chain) (cargo : Cargo) (v : View) → Finds x w (SlotTake slot) (Took o cargo) → Does u (SlotTake slot) (Took o cargo) v → Rests program source h u v h' → let y = with_chain slot None no_cargo x in On h' (slot_of y) (cargo_of y) v
   unfolding view_after
   took_view slot o cargo v f d b =
-      let z = took_parts slot o cargo in
+      let z = pending_after u (SlotTake slot) (Took o cargo) tt in
       by_take program source limits h0 h h' x w T L slot o cargo v f.0 f.1 (ap (λ (y : View). y.drawn) d.1 ∙ z.0) (ap (λ (y : View). y.child) d.1 ∙ z.1) (ap (λ (y : View). y.chains) d.1) b
 
   put_view : (m : Meaning) (slot : Slot) (chain : Chain) (cargo : Cargo) (v : View) → Careful m u (SlotPut slot chain cargo) → IsKnown x w u (SlotPut slot chain cargo) → Does u (SlotPut slot chain cargo) Done v → Rests program source h u v h' → let y = with_chain slot (Some chain) cargo x in On h' (slot_of y) (cargo_of y) v
   unfolding view_after
   put_view m slot chain cargo v careful known d b =
-      let z = put_parts slot chain cargo in
-      by_put program source limits h0 h h' x w T L slot chain cargo v known.0 known.1 careful.puts.carries (ap (λ (y : View). y.drawn) d.1 ∙ z.0) (ap (λ (y : View). y.child) d.1 ∙ z.1) (ap (λ (y : View). y.chains) d.1 ∙ z.2) b
+      let z = pending_after u (SlotPut slot chain cargo) Done tt in
+      by_put program source limits h0 h h' x w T L slot chain cargo v known.0 known.1 careful.puts.carries (ap (λ (y : View). y.drawn) d.1 ∙ z.0) (ap (λ (y : View). y.child) d.1 ∙ z.1) (ap (λ (y : View). y.chains) d.1 ∙ put_chains slot chain cargo u) b
 
   draw_view : (m : Meaning) (n : ℕ) (v : View) → MeansItems program source m → Careful m u Draw → IsKnown x w u Draw → Does u Draw (Number n) v → Rests program source h u v h' → Within program source limits h0 h' (world_after x w Draw (Number n) v)
   unfolding view_after

@@ -32,10 +32,11 @@ use Rattle.st_world.proofs.Functions.{put_here, put_other, put_case, put_all}
 use Rattle.st_threads.specs.Behind.{heap_on}
 use Rattle.st_threads.specs.Holding.{IsOf, Threads}
 use Rattle.st_threads.proofs.Holdings.{told_laws as threads_told}
-use Rattle.st_named.specs.Naming.{OwnerOf, ShowsName, CellHolds, ViewNames, Named}
-use Rattle.st_named.proofs.Heaps.{Grows, NameStays, grows_same, grows_after, own_after, threads_back, made_back, count_case, stays_same, stays_of, shows_on}
-use Rattle.st_named.proofs.Told.{Tells, Extends, PartsOf, child_cell, child_of, told_cons, told_extends, told_here, told_more, told_rest, told_went, parts_on, parts_view}
-use Rattle.st_named.proofs.Keeping.{named_of, slot_on, children_on, parts, parts_at, told_top, none_coming, top_of}
+use Rattle.st_names.specs.Naming.{OwnerOf, ShowsName, CellHolds, ViewNames, Named}
+use Rattle.st_names.proofs.Heaps.{Grows, NameStays, grows_same, grows_after, own_after, threads_back, made_back, count_case, stays_same, stays_of, shows_on}
+use Rattle.st_names.proofs.Told.{Tells, Extends, PartsOf, child_cell, child_of, told_cons, told_extends, told_here, told_more, told_rest, told_went, parts_on, parts_view}
+use Rattle.st_names.proofs.Follows.{named_of}
+use Rattle.st_named.proofs.Keeping.{slot_on, children_on, parts, parts_at, told_top, none_coming, top_of}
 
 -- ---- names
 

@@ -25,9 +25,9 @@ use Rattle.st_world.specs.World.{World, slot_of, cargo_of, seen}
 use Rattle.st_world.proofs.Functions.{put_here, put_other, put_all}
 use Rattle.st_threads.specs.Behind.{heap_on}
 use Rattle.st_threads.specs.Holding.{IsOf, Threads}
-use Rattle.st_named.specs.Naming.{ShowsName, WillEnd, IsNamed, CellHolds, ViewNames, SlotNames, Naming, Named}
-use Rattle.st_named.proofs.Heaps.{Grows, grows_same, grows_after, enabled_is, threads_back, made_back, count_case, NameStays, stays_of, shows_on}
-use Rattle.st_named.proofs.Told.{Tells, Extends, Parts, PartsOf, child_cell, child_of, told_cons, told_here, told_rest, told_went, parts_on, view_parts, parts_view}
+use Rattle.st_names.specs.Naming.{ShowsName, WillEnd, CellHolds, ViewNames, SlotNames, Naming, Named}
+use Rattle.st_names.proofs.Heaps.{Grows, grows_same, grows_after, enabled_is, threads_back, made_back, count_case, NameStays, stays_of, shows_on}
+use Rattle.st_names.proofs.Told.{Tells, Extends, Parts, PartsOf, child_cell, child_of, told_cons, told_here, told_rest, told_went, parts_on, view_parts, parts_view}
 use Rattle.st_named.proofs.ViewsAfter.{SameParts}
 
 -- a chain in a slot has the same names
@@ -38,9 +38,6 @@ slot_on program source h h' name name' cell cell' (Some chain) cargo extends k =
   note = extends cargo.carried.known.note.cell (Future cargo.carried.known.path) k.note;
   knows = k.knows;
 }
-
-pub named_of : (program : Program) (source : Data) (h : Heap) (x : World) (N : Named program source h x) (c : ℕ) (n : Held) → N.name c ≡ Some n → IsNamed program source h N.name N.cell c (x.owner c) (x.state c) (x.value c) n
-named_of program source h x N c n e = subst (CellHolds program source h N.name N.cell c (x.owner c) (x.state c) (x.value c)) e (N.cell_holds c)
 
 module _ (program : Program) (source : Data) (h : Heap) (x : World) (N : Named program source h x) (w : ℕ) where
   pub record HeapOn (h' : Heap) : Type 0 where

@@ -1,11 +1,6 @@
-pub mod Heaps
-pub mod Known
-pub mod Told
 pub mod ViewsAfter
 pub mod Keeping
 pub mod Moves
-pub mod Follows
-pub mod Firsts
 pub mod Cells
 pub mod Words
 pub mod Slots

@@ -27,12 +27,13 @@ use Rattle.st_world.specs.World.{World, seen}
 use Rattle.st_threads.specs.Behind.{heap_on, Makes, Forks, IsStill}
 use Rattle.st_threads.specs.Holding.{Threads}
 use Rattle.st_threads.proofs.Lists.{known_in, left_back}
-use Rattle.st_named.specs.Naming.{Named}
+use Rattle.st_names.specs.Naming.{Named}
 use Rattle.st_named.specs.Laws.{MovesKept}
-use Rattle.st_named.proofs.Heaps.{stays_same, stays_of}
-use Rattle.st_named.proofs.Known.{child_knows}
-use Rattle.st_named.proofs.Told.{Tells, Covers, PartsOf, child_cell, told_cons, told_fewer, told_here, told_rest, told_went, parts_on}
-use Rattle.st_named.proofs.Keeping.{calm, parts, named_of, heap_same, heap_goes, top_of, told_top, item_kept}
+use Rattle.st_names.proofs.Heaps.{stays_same, stays_of}
+use Rattle.st_names.proofs.Known.{child_knows}
+use Rattle.st_names.proofs.Told.{Tells, Covers, PartsOf, child_cell, told_cons, told_fewer, told_here, told_rest, told_went, parts_on}
+use Rattle.st_named.proofs.Keeping.{calm, parts, heap_same, heap_goes, top_of, told_top, item_kept}
+use Rattle.st_names.proofs.Follows.{named_of}
 
 -- ---- threads that are the same
 

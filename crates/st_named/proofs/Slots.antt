@@ -19,8 +19,8 @@ use Rattle.st_world.specs.Functions.{put}
 use Rattle.st_world.specs.World.{World, slot_of, cargo_of, with_chain, seen, waking}
 use Rattle.st_world.proofs.Functions.{put_here, put_other, put_all}
 use Rattle.st_threads.proofs.Lists.{known_in, left_back}
-use Rattle.st_named.specs.Naming.{SlotNames, Named}
-use Rattle.st_named.proofs.Told.{PartsOf, child_cell, told_fewer, told_joined, cargo_tells}
+use Rattle.st_names.specs.Naming.{SlotNames, Named}
+use Rattle.st_names.proofs.Told.{PartsOf, child_cell, told_fewer, told_joined, cargo_tells}
 use Rattle.st_named.proofs.Keeping.{kept, parts, parts_at, parts_same, heap_same}
 use Rattle.st_named.proofs.Moves.{among}
 

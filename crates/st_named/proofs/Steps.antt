@@ -23,10 +23,10 @@ use Rattle.st_world.specs.Functions.{put}
 use Rattle.st_world.specs.World.{World, seen, put_if, Finds, world_after}
 use Rattle.st_threads.specs.Behind.{Rests, Goes, change_behind, owner_behind, StepBehind}
 use Rattle.st_threads.specs.Holding.{Threads}
-use Rattle.st_named.specs.Naming.{Named}
+use Rattle.st_names.specs.Naming.{Named}
 use Rattle.st_named.specs.Laws.{IsKnown, Kept}
-use Rattle.st_named.proofs.Heaps.{stays_same}
-use Rattle.st_named.proofs.Told.{child_cell}
+use Rattle.st_names.proofs.Heaps.{stays_same}
+use Rattle.st_names.proofs.Told.{child_cell}
 use Rattle.st_named.proofs.ViewsAfter.{SameParts, IsSame, same_after}
 use Rattle.st_named.proofs.Keeping.{calm, parts, parts_same, heap_same, item_kept}
 use Rattle.st_named.proofs.Cells.{top_is, named_counter, named_child}

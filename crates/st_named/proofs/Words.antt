@@ -32,11 +32,12 @@ use Rattle.st_world.proofs.Functions.{put_here, put_other}
 use Rattle.st_lists.specs.Laws.{KnowsKind}
 use Rattle.st_threads.specs.Behind.{heap_on, Rests, future_behind, counter_behind, state_behind}
 use Rattle.st_threads.specs.Holding.{IsOf, Threads}
-use Rattle.st_named.specs.Naming.{OwnerOf, ShowsName, WillEnd, CellHolds, Named}
-use Rattle.st_named.proofs.Heaps.{NameStays, own_after, not_live, count_here, stays_same, stays_of, shows_on}
-use Rattle.st_named.proofs.Told.{PartsOf, HasStored, child_cell, told_here, told_rest, parts_on}
+use Rattle.st_names.specs.Naming.{OwnerOf, ShowsName, WillEnd, CellHolds, Named}
+use Rattle.st_names.proofs.Heaps.{NameStays, own_after, not_live, count_here, stays_same, stays_of, shows_on}
+use Rattle.st_names.proofs.Told.{PartsOf, HasStored, child_cell, told_here, told_rest, parts_on}
 use Rattle.st_named.proofs.ViewsAfter.{SameParts}
-use Rattle.st_named.proofs.Keeping.{HeapOn, kept, parts, parts_at, parts_same, slots_same, named_of, heap_same, heap_goes, top_of, told_top, goes_view, none_coming}
+use Rattle.st_named.proofs.Keeping.{HeapOn, kept, parts, parts_at, parts_same, slots_same, heap_same, heap_goes, top_of, told_top, goes_view, none_coming}
+use Rattle.st_names.proofs.Follows.{named_of}
 
 -- ---- words
 

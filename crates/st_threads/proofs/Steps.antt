@@ -37,7 +37,7 @@ use Rattle.st_threads.proofs.ViewsAfter.{IsOfNoSlot, same_after, took_chains, pu
 -- ---- words and slots
 
 -- a waiter that is made ready has its thread still
-woken_known : (x : World) (c : ℕ) (z : Slot) → (cargo_of x z).carried.known ≡ (cargo_of (waking true c x) z).carried.known
+pub woken_known : (x : World) (c : ℕ) (z : Slot) → (cargo_of x z).carried.known ≡ (cargo_of (waking true c x) z).carried.known
 woken_known x c (Cell d) = put_same (λ (k : Cargo). k.carried.known) x.home_cargo c (readied (x.home_cargo c)) refl d
 woken_known x c (Mail a) = refl
 
@@ -65,11 +65,11 @@ changed_world h x w v (StopSet code) (Number n) other r = r
 changed_world h x w v (RequestChange at old new) (Number n) other r = r
 changed_world h x w v s a other r = r
 
-chain_here : (y : Slot) (o : Option Chain) (c : Cargo) (x : World) → (slot_of (with_chain y o c x) y ≡ o) × (cargo_of (with_chain y o c x) y ≡ c)
+pub chain_here : (y : Slot) (o : Option Chain) (c : Cargo) (x : World) → (slot_of (with_chain y o c x) y ≡ o) × (cargo_of (with_chain y o c x) y ≡ c)
 chain_here (Cell d) o c x = (put_here x.home d o, put_here x.home_cargo d c)
 chain_here (Mail a) o c x = (put_here x.post a o, put_here x.post_cargo a c)
 
-chain_there : (y : Slot) (o : Option Chain) (c : Cargo) (x : World) (z : Slot) → z ≢ y → (slot_of (with_chain y o c x) z ≡ slot_of x z) × (cargo_of (with_chain y o c x) z ≡ cargo_of x z)
+pub chain_there : (y : Slot) (o : Option Chain) (c : Cargo) (x : World) (z : Slot) → z ≢ y → (slot_of (with_chain y o c x) z ≡ slot_of x z) × (cargo_of (with_chain y o c x) z ≡ cargo_of x z)
 chain_there (Cell d) o c x (Cell e) n = (put_other x.home d o e (λ s. n (ap Cell s)), put_other x.home_cargo d c e (λ s. n (ap Cell s)))
 chain_there (Cell d) o c x (Mail e) n = (refl, refl)
 chain_there (Mail d) o c x (Cell e) n = (refl, refl)

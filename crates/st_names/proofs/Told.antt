@@ -20,9 +20,9 @@ use Rattle.st_model.specs.Heap.{Path, Heap, Change, Enabled}
 use Rattle.st_made.specs.Items.{went, child_path, next_move, IsAtFork}
 use Rattle.st_made.specs.Runs.{known_of}
 use Rattle.st_threads.proofs.Lists.{known_case, known_in}
-use Rattle.st_named.specs.Naming.{WillEnd, ViewNames, CargoNames}
-use Rattle.st_named.proofs.Heaps.{Grows}
-use Rattle.st_named.proofs.Known.{ThreadKnows, own_knows}
+use Rattle.st_names.specs.Naming.{WillEnd, ViewNames, CargoNames}
+use Rattle.st_names.proofs.Heaps.{Grows}
+use Rattle.st_names.proofs.Known.{ThreadKnows, own_knows}
 
 -- ---- threads and names
 

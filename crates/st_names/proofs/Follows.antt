@@ -1,4 +1,4 @@
--- What follows from the names: told_laws.
+-- What follows from the names: named_of (what the words of a named cell hold) and told_laws.
 use Rattle.std.proofs.Common.{◌≡◌, inl, inr, ℕ, ◌≤◌, Some, sym, ◌∙◌, subst}
 use Rattle.st_base.specs.declared.chain.Chain.{Chain}
 use Rattle.st_base.specs.declared.thread.Held.{Held}
@@ -9,9 +9,11 @@ use Rattle.st_model.specs.declared.program.Program.{Program}
 use Rattle.st_model.specs.Memory.{Data}
 use Rattle.st_model.specs.Heap.{Heap, HasEnded}
 use Rattle.st_world.specs.World.{World, slot_of, cargo_of}
-use Rattle.st_named.specs.Naming.{OwnerOf, SlotNames, CargoNames, Named}
-use Rattle.st_named.specs.Laws.{Told}
-use Rattle.st_named.proofs.Keeping.{named_of}
+use Rattle.st_names.specs.Naming.{OwnerOf, IsNamed, CellHolds, SlotNames, CargoNames, Named}
+use Rattle.st_names.specs.Laws.{Told}
+
+pub named_of : (program : Program) (source : Data) (h : Heap) (x : World) (N : Named program source h x) (c : ℕ) (n : Held) → N.name c ≡ Some n → IsNamed program source h N.name N.cell c (x.owner c) (x.state c) (x.value c) n
+named_of program source h x N c n e = subst (CellHolds program source h N.name N.cell c (x.owner c) (x.state c) (x.value c)) e (N.cell_holds c)
 
 module _ (program : Program) (source : Data) (h : Heap) (x : World) (N : Named program source h x) where
   one_cell : (c d : ℕ) (n : Held) → N.name c ≡ Some n → N.name d ≡ Some n → c ≡ d

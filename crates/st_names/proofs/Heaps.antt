@@ -21,7 +21,7 @@ use Rattle.st_laws.proofs.Later.{step_forks}
 use Rattle.st_laws.proofs.Placing.{OfChild, each_after, le_or_less, same_counter}
 use Rattle.st_laws.proofs.Staying.{ended_stays, other_stays}
 use Rattle.st_made.specs.Items.{IsLive, ending}
-use Rattle.st_named.specs.Naming.{ShowsName, WillEnd}
+use Rattle.st_names.specs.Naming.{ShowsName, WillEnd}
 
 -- ---- what is there stays
 

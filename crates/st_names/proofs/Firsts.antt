@@ -36,10 +36,10 @@ use Rattle.st_world.specs.OfPlain.{reading, reading_slot, reading_cargo, world_o
 use Rattle.st_world.specs.World.{slot_of, cargo_of}
 use Rattle.st_world.proofs.Functions.{put_case, put_all}
 use Rattle.st_world.proofs.Opened.{alike, led_first, led_other}
-use Rattle.st_named.specs.Naming.{CellHolds, ViewNames, SlotNames, Named}
-use Rattle.st_named.specs.Laws.{First}
-use Rattle.st_named.proofs.Known.{KnowsAll, ThreadKnows, knows_of}
-use Rattle.st_named.proofs.Told.{Parts, parts_view}
+use Rattle.st_names.specs.Naming.{CellHolds, ViewNames, SlotNames, Named}
+use Rattle.st_names.specs.Laws.{First}
+use Rattle.st_names.proofs.Known.{KnowsAll, ThreadKnows, knows_of}
+use Rattle.st_names.proofs.Told.{Parts, parts_view}
 
 -- ---- lists
 

@@ -1,5 +1,0 @@
-use Rattle.st_named.proofs.Firsts as proven
-use Rattle.st_named.proofs.laws.first_names.Goals as goal
-
-pub returns : goal.returns
-returns c = proven.first_names

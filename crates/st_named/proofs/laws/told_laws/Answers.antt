@@ -1,5 +1,0 @@
-use Rattle.st_named.proofs.Follows as proven
-use Rattle.st_named.proofs.laws.told_laws.Goals as goal
-
-pub returns : goal.returns
-returns c = proven.told_laws

@@ -1,0 +1,5 @@
+pub mod Heaps
+pub mod Known
+pub mod Told
+pub mod Follows
+pub mod Firsts
