@@ -11,9 +11,9 @@ use Rattle.st_model.specs.Heap.{Path, Heap}
 use Rattle.st_laws.proofs.HeapSteps.{same_thread}
 use Rattle.st_made.specs.Items.{IsLive}
 use Rattle.st_world.specs.World.{World}
-use Rattle.st_named.specs.Naming.{OwnerOf, CellHolds, Named}
-use Rattle.st_named.proofs.Heaps.{not_live}
-use Rattle.st_named.proofs.Keeping.{named_of}
+use Rattle.st_names.specs.Naming.{OwnerOf, CellHolds, Named}
+use Rattle.st_names.proofs.Heaps.{not_live}
+use Rattle.st_names.proofs.Follows.{named_of}
 use Rattle.st_refused.specs.Unbacked.{NamedTwice, FullUnended, ValueOfNone}
 
 -- the kind of an Owner word, the parent's cell and the number there

@@ -21,7 +21,7 @@ use Rattle.st_made.specs.Items.{IsLive}
 use Rattle.st_made.specs.Runs.{all_known}
 use Rattle.st_world.specs.World.{World, slot_of, cargo_of, world_after}
 use Rattle.st_threads.specs.Holding.{Threads}
-use Rattle.st_named.specs.Naming.{Named}
+use Rattle.st_names.specs.Naming.{Named}
 use Rattle.st_output.specs.Showing.{Output}
 use Rattle.st_limits.specs.Stopping.{IsBegun, Within}
 use Rattle.st_rule.specs.Walking.{Walking}

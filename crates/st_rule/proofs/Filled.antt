@@ -34,8 +34,8 @@ use Rattle.st_threads.proofs.Holdings.{told_laws as threads_told}
 use Rattle.st_threads.proofs.Firsts.{first_threads}
 use Rattle.st_named.proofs.Steps.{step_kept as names_kept}
 use Rattle.st_named.proofs.Moves.{moves_keep as names_moves}
-use Rattle.st_named.proofs.Follows.{told_laws as names_told}
-use Rattle.st_named.proofs.Firsts.{first_names}
+use Rattle.st_names.proofs.Follows.{told_laws as names_told}
+use Rattle.st_names.proofs.Firsts.{first_names}
 use Rattle.st_output.proofs.Steps.{step_kept as output_kept, move_kept as output_moves}
 use Rattle.st_output.proofs.Firsts.{first_output}
 use Rattle.st_limits.proofs.Steps.{step_kept as limits_kept}

@@ -18,7 +18,7 @@ use Rattle.st_model.specs.Memory.{Data}
 use Rattle.st_model.specs.Heap.{Path, Heap, HasEnded}
 use Rattle.st_world.specs.World.{World, Finds, put_if, waking, with_word, world_after}
 use Rattle.st_world.proofs.Functions.{put_other}
-use Rattle.st_named.specs.Naming.{CellHolds}
+use Rattle.st_names.specs.Naming.{CellHolds}
 use Rattle.st_rule.specs.Rule.{Rule}
 use Rattle.st_rule.specs.Laws.{Follows, RuleFollows, RuleFillsOnce}
 use Rattle.st_rule.proofs.Groups.{Groups}

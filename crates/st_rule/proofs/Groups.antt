@@ -11,7 +11,8 @@ use Rattle.st_counts.specs.Laws.{Kept as CountsKept, MoveLaws as CountsMoves, To
 use Rattle.st_draws.specs.Laws.{Kept as DrawsKept, MoveLaws as DrawsMoves, ToldLaws as DrawsTold, First as DrawsFirst}
 use Rattle.st_knows.specs.Laws.{Kept as KnowsKept, MoveLaws as KnowsMoves, ToldLaws as KnowsTold, First as KnowsFirst}
 use Rattle.st_threads.specs.Laws.{StepGoes, MoveGoes, Kept as ThreadsKept, MovesKept as ThreadsMoves, ToldLaws as ThreadsTold, First as ThreadsFirst}
-use Rattle.st_named.specs.Laws.{Kept as NamesKept, MovesKept as NamesMoves, Told as NamesTold, First as NamesFirst}
+use Rattle.st_named.specs.Laws.{Kept as NamesKept, MovesKept as NamesMoves}
+use Rattle.st_names.specs.Laws.{Told as NamesTold, First as NamesFirst}
 use Rattle.st_output.specs.Laws.{Kept as OutputKept, MovesKept as OutputMoves, First as OutputFirst}
 use Rattle.st_limits.specs.Laws.{Kept as LimitsKept, MovesKept as LimitsMoves, First as LimitsFirst}
 

@@ -21,7 +21,7 @@ use Rattle.st_counts.specs.Counting.{Counts}
 use Rattle.st_draws.specs.Drawing.{Draws}
 use Rattle.st_knows.specs.Knowing.{Knows}
 use Rattle.st_threads.specs.Holding.{Threads}
-use Rattle.st_named.specs.Naming.{Named}
+use Rattle.st_names.specs.Naming.{Named}
 use Rattle.st_output.specs.Showing.{Output}
 use Rattle.st_limits.specs.Stopping.{MeansLimits, Within}
 use Rattle.st_rule.specs.Walking.{Walking}
