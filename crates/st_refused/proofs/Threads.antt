@@ -18,7 +18,8 @@ use Rattle.st_world.specs.World.{World, slot_of, cargo_of, with_word, with_chain
 use Rattle.st_world.proofs.Functions.{put_here, put_other, put_all}
 use Rattle.st_threads.specs.Holding.{Threads}
 use Rattle.st_threads.proofs.Holdings.{told_laws}
-use Rattle.st_limits.proofs.Turns.{slot_case, slot_here, slot_other}
+use Rattle.st_threads.proofs.Holdings.{same_slot}
+use Rattle.st_threads.proofs.Steps.{chain_here, chain_there}
 use Rattle.st_refused.specs.Unbacked.{HasPath, ThreadGiven, Gives, ThreadDropped}
 
 -- the chain in a slot has this thread
@@ -71,11 +72,11 @@ word_path x c n (Mail d) p s = s
 chain_path : (x : World) (slot : Slot) (chain : Option Chain) (cargo : Cargo) (z : Slot) (p : Path) → SlotPath (with_chain slot chain cargo x) z p → ((b : Chain) × (chain ≡ Some b) × (cargo.carried.known.path ≡ p)) ⊎ SlotPath x z p
 chain_path x slot chain cargo z p s = ⊎_elim
     (λ (e : z ≡ slot).
-    let here = slot_here x slot chain cargo in
+    let here = chain_here slot chain cargo x in
     let at : SlotPath (with_chain slot chain cargo x) slot p = subst (λ (y : Slot). SlotPath (with_chain slot chain cargo x) y p) e s in
     inl (at.0, sym here.0 ∙ at.1, ap (λ (g : Cargo). g.carried.known.path) (sym here.1) ∙ at.2))
-    (λ (n : z ≡ slot → ⊥). let there = slot_other x slot chain cargo z n in inr (s.0, sym there.0 ∙ s.1, ap (λ (g : Cargo). g.carried.known.path) (sym there.1) ∙ s.2))
-    (slot_case z slot)
+    (λ (n : z ≡ slot → ⊥). let there = chain_there slot chain cargo x z n in inr (s.0, sym there.0 ∙ s.1, ap (λ (g : Cargo). g.carried.known.path) (sym there.1) ∙ s.2))
+    (same_slot z slot)
 
 -- what is in a slot after a step was there, or was put there
 slot_was : (x : World) (w : ℕ) (s : Step) (a : Answer) (z : Slot) (p : Path) → (Gives s p → ⊥) → SlotPath (changed x w s a) z p → SlotPath x z p
@@ -96,7 +97,7 @@ was_there x w s a v j p other has = subst (λ (u : View). HasPath u p) (put_othe
 pub thread_given : ThreadGiven
 thread_given h x v w slot chain cargo u other has T =
     let y : World = with_chain slot (Some chain) cargo x in
-    let here = slot_here x slot (Some chain) cargo in
+    let here = chain_here slot (Some chain) cargo x in
     let p : Path = cargo.carried.known.path in
     let there : HasPath (put y.view w u v) p = subst (λ (k : View). HasPath k p) (sym (put_other y.view w u v other ∙ ap (λ (f : ℕ → View). f v) (views_stay x w (SlotPut slot chain cargo) Done))) has in
     not_both h (seen w u y) v slot p T there (seen_path y w u slot p (chain, here.0, ap (λ (g : Cargo). g.carried.known.path) here.1))
