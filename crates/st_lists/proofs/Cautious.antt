@@ -1,4 +1,4 @@
--- A careful step does what the lists need of it: careful_tends. It speaks of what the program means to a board, so it is no contract.
+-- A careful step does what the lists need of it: careful_tends; no wait is shown as ready: not_ready. It speaks of what the program means to a board, so it is no contract.
 use Rattle.std.proofs.Common.{◌≡◌, inl, inr, ⊎_elim, Some, ap, ◌∙◌, arith}
 use Rattle.st_base.specs.declared.chain.Waiting.{Waiting}
 use Rattle.st_base.specs.declared.chain.Waiting.TheVariants as waits
@@ -10,7 +10,7 @@ use Rattle.st_words.specs.Careful.{Meaning, Careful, standing_of}
 use Rattle.st_lists.specs.Laws.{Tends}
 
 -- no chain that waits or has stopped is shown as ready
-not_ready : (wait : Waiting) → standing_of wait ≡ Some ready → ⊥
+pub not_ready : (wait : Waiting) → standing_of wait ≡ Some ready → ⊥
 not_ready waits.Start e = let no : ⊥ = cc in no
 not_ready waits.Ready e = let no : ⊥ = cc in no
 not_ready (waits.Touch cell) e = let no : ⊥ = cc in no

@@ -6,7 +6,7 @@ use Rattle.st_words.specs.declared.view.Cargo.{Cargo}
 use Rattle.st_words.specs.Careful.{Meaning}
 use Rattle.st_world.specs.Functions.{put}
 use Rattle.st_world.proofs.Functions.{put_here}
-use Rattle.st_rule.specs.Walking.{SlotWalks}
+use Rattle.st_walks.specs.Walking.{SlotWalks}
 use Rattle.st_refused.specs.Unbacked.{ChainAstray}
 
 pub chain_astray : (m : Meaning) → ChainAstray m

@@ -24,7 +24,7 @@ use Rattle.st_threads.specs.Holding.{Threads}
 use Rattle.st_names.specs.Naming.{Named}
 use Rattle.st_output.specs.Showing.{Output}
 use Rattle.st_limits.specs.Stopping.{IsBegun, Within}
-use Rattle.st_rule.specs.Walking.{Walking}
+use Rattle.st_walks.specs.Walking.{Walking}
 
 -- ---- threads
 

@@ -1,5 +1,5 @@
 -- What the groups know of each other: for a careful step of a worker on a board with the rule, the premises that each group's law names.
-use Rattle.std.proofs.Common.{◌≡◌, ◌≢◌, ◌⊎◌, inl, inr, ⊎_elim, ℕ, ◌+◌, ◌^◌, ◌≤◌, ◌<◌, ◌-◌, nat_lt, Bool, true, false, if◌then◌else◌, Some, None, refl, ◌∙◌, ap, subst, arith}
+use Rattle.std.proofs.Common.{◌≡◌, ◌≢◌, ◌⊎◌, inl, inr, ⊎_elim, ℕ, ◌+◌, ◌^◌, ◌≤◌, ◌<◌, ◌-◌, nat_lt, Bool, true, false, if◌then◌else◌, None, refl, ◌∙◌, ap, subst, arith}
 use Rattle.std.specs.List.{Contains}
 use Rattle.st_base.specs.declared.chain.Chain.{Chain}
 use Rattle.st_base.specs.declared.chain.Waiting.{Waiting}
@@ -13,7 +13,7 @@ use Rattle.st_words.specs.declared.view.Waiter.{Waiter}
 use Rattle.st_words.specs.declared.view.View.{View}
 use Rattle.st_words.specs.Encodings.{count_in, ready, counter_word, count_after}
 use Rattle.st_words.specs.Steps.{Step, CellStore, CellChange, SlotTake, SlotPut, Draw, StopSet, Can, IsFuture, IsCounter, HasInHand, MayTake}
-use Rattle.st_words.specs.Careful.{Meaning, Careful, IsAtHome, standing_of, IsOver as HasSeenOver}
+use Rattle.st_words.specs.Careful.{Meaning, Careful, IsAtHome, IsOver as HasSeenOver}
 use Rattle.st_model.specs.declared.program.Program.{Program}
 use Rattle.st_model.specs.Memory.{Data}
 use Rattle.st_model.specs.Heap.{Heap}
@@ -22,6 +22,7 @@ use Rattle.st_world.specs.World.{World, slot_of}
 use Rattle.st_spots.specs.Listing.{Held, counters}
 use Rattle.st_lists.specs.Laws.{KnowsKind, IsKnown as ListsKnow}
 use Rattle.st_seats.specs.Placing.{IsOver}
+use Rattle.st_lists.proofs.Cautious.{not_ready}
 use Rattle.st_places.specs.Steps.{IsKnown as PlacesKnow}
 use Rattle.st_leases.specs.Laws.{IsVacant, Tends as LeasesTend}
 use Rattle.st_counts.specs.Laws.{IsWeighed}
@@ -32,14 +33,6 @@ use Rattle.st_named.specs.Laws.{IsKnown as NamesKnow}
 use Rattle.st_limits.specs.Laws.{IsKnown as LimitsKnow}
 use Rattle.st_rule.specs.Rule.{Rule}
 use Rattle.st_rule.proofs.Groups.{Groups}
-
--- no chain that waits or has stopped is shown as ready
-not_ready : (wait : Waiting) → standing_of wait ≡ Some ready → ⊥
-not_ready waits.Start e = let no : ⊥ = cc in no
-not_ready waits.Ready e = let no : ⊥ = cc in no
-not_ready (waits.Touch cell) e = let no : ⊥ = cc in no
-not_ready (waits.Join cell least) e = let no : ⊥ = cc in no
-not_ready waits.Trapped e = let no : ⊥ = cc in no
 
 counted : (count head : ℕ) → head < 2 ^ 17 → count_in (counter_word count head) ≡ count
 counted count head l = omega arith

@@ -41,6 +41,8 @@ use Rattle.st_output.proofs.Firsts.{first_output}
 use Rattle.st_limits.proofs.Steps.{step_kept as limits_kept}
 use Rattle.st_limits.proofs.Moves.{move_kept as limits_moves}
 use Rattle.st_limits.proofs.Firsts.{first_limits}
+use Rattle.st_walks.proofs.Walks.{step_kept as walks_kept}
+use Rattle.st_walks.proofs.Firsts.{first_walks}
 use Rattle.st_rule.specs.Laws.{RuleLaws}
 use Rattle.st_rule.proofs.Groups.{Groups}
 use Rattle.st_rule.proofs.Kept.{rule_kept}
@@ -103,6 +105,8 @@ groups m = record {
   limits_kept = limits_kept m;
   limits_moves = limits_moves;
   limits_first = first_limits;
+  walks_kept = walks_kept m;
+  walks_first = first_walks m;
 }
 
 pub rule_laws : (m : Meaning) → RuleLaws m

@@ -7,11 +7,11 @@ use Rattle.st_base.specs.declared.thread.Held.{Held}
 use Rattle.st_base.specs.declared.thread.Held.TheVariants.{Future}
 use Rattle.st_base.specs.declared.thread.Standing.TheVariants.{Ended}
 use Rattle.st_base.specs.declared.thread.Thread.{Thread}
-use Rattle.st_words.specs.declared.view.CellWord.TheVariants.{Owner, State, Value, Next, Standing as StandingWord, Trap}
-use Rattle.st_words.specs.declared.view.Slot.TheVariants.{Cell, Mail}
+use Rattle.st_words.specs.declared.view.CellWord.TheVariants.{State, Value, Standing as StandingWord}
+use Rattle.st_words.specs.declared.view.Slot.TheVariants.{Cell}
 use Rattle.st_words.specs.declared.view.View.{View}
 use Rattle.st_words.specs.Encodings.{full_word, is_counter}
-use Rattle.st_words.specs.Steps.{Step, CellStore, CellChange, StopSet, RequestChange, SlotTake, SlotPut, Answer, Done, Number, Looked, Took, Can, IsCounter, MayChange}
+use Rattle.st_words.specs.Steps.{Step, CellStore, CellChange, StopSet, RequestChange, SlotTake, SlotPut, Answer, Number, Can, IsCounter, MayChange}
 use Rattle.st_words.specs.Careful.{Meaning}
 use Rattle.st_model.specs.declared.program.Program.{Program}
 use Rattle.st_model.specs.Memory.{Data}
@@ -81,37 +81,24 @@ module _ (m : Meaning) (g : Groups m) (program : Program) (source : Data) (limit
 
     state_stays : (s : Step) (a : Answer) (v : View) → Can (x.view w) s → Finds x w s a → (world_after x w s a v).state c ≡ full_word
     state_stays (CellChange d old new) (Number n) v can f = change_by (n == old) d old new n refl f can.1
-    state_stays (CellChange d old new) Done v can f = absurd f
-    state_stays (CellChange d old new) (Looked n cargo) v can f = absurd f
-    state_stays (CellChange d old new) (Took chain cargo) v can f = absurd f
-    state_stays (CellStore d Owner n) a v can f = full
     state_stays (CellStore d State n) a v can f = absurd can.1
     state_stays (CellStore d Value n) a v can f = full
-    state_stays (CellStore d Next n) a v can f = full
     state_stays (CellStore d StandingWord n) a v can f = ap (λ (k : ℕ → ℕ). k c) (waking_state _ d (with_word d StandingWord n x)).0 ∙ full
-    state_stays (CellStore d Trap n) a v can f = full
     state_stays (StopSet code) (Number n) v can f = full
     state_stays (RequestChange at old new) (Number n) v can f = full
     state_stays (SlotTake (Cell d)) a v can f = full
-    state_stays (SlotTake (Mail d)) a v can f = full
     state_stays (SlotPut (Cell d) chain cargo) a v can f = full
-    state_stays (SlotPut (Mail d) chain cargo) a v can f = full
     state_stays s a v can f = full
 
     value_stays : (s : Step) (a : Answer) (v : View) → Can (x.view w) s → Finds x w s a → (world_after x w s a v).value c ≡ x.value c
-    value_stays (CellStore d Owner n) a v can f = refl
     value_stays (CellStore d State n) a v can f = refl
     value_stays (CellStore d Value n) a v can f = put_other x.value d n c (λ e. (g.places_told.unfilled x r.lists w d r.places (inl can.1.0)).2 (ap x.state (sym e) ∙ full))
-    value_stays (CellStore d Next n) a v can f = refl
     value_stays (CellStore d StandingWord n) a v can f = ap (λ (k : ℕ → ℕ). k c) (waking_state _ d (with_word d StandingWord n x)).1
-    value_stays (CellStore d Trap n) a v can f = refl
     value_stays (CellChange d old new) (Number n) v can f = refl
     value_stays (StopSet code) (Number n) v can f = refl
     value_stays (RequestChange at old new) (Number n) v can f = refl
     value_stays (SlotTake (Cell d)) a v can f = refl
-    value_stays (SlotTake (Mail d)) a v can f = refl
     value_stays (SlotPut (Cell d) chain cargo) a v can f = refl
-    value_stays (SlotPut (Mail d) chain cargo) a v can f = refl
     value_stays s a v can f = refl
 
 module _ (m : Meaning) (g : Groups m) (program : Program) (source : Data) (limits : Limits) where

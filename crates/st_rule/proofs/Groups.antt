@@ -15,6 +15,7 @@ use Rattle.st_named.specs.Laws.{Kept as NamesKept, MovesKept as NamesMoves}
 use Rattle.st_names.specs.Laws.{Told as NamesTold, First as NamesFirst}
 use Rattle.st_output.specs.Laws.{Kept as OutputKept, MovesKept as OutputMoves, First as OutputFirst}
 use Rattle.st_limits.specs.Laws.{Kept as LimitsKept, MovesKept as LimitsMoves, First as LimitsFirst}
+use Rattle.st_walks.specs.Laws.{Kept as WalksKept, First as WalksFirst}
 
 pub record Groups (m : Meaning) : Type 0 where
   pub lists_kept : ListsKept
@@ -67,3 +68,5 @@ pub record Groups (m : Meaning) : Type 0 where
   pub limits_kept : LimitsKept m
   pub limits_moves : LimitsMoves
   pub limits_first : LimitsFirst
+  pub walks_kept : WalksKept m
+  pub walks_first : WalksFirst m

@@ -20,7 +20,6 @@ use Rattle.st_rule.specs.Laws.{RuleKept}
 use Rattle.st_rule.proofs.Groups.{Groups}
 use Rattle.st_rule.proofs.Facts.{kind_known, changes_cell, lists_know, places_know, draws_know, knows_know, leases_vacant, leases_tend, counts_weigh, threads_know, names_know, limits_know}
 use Rattle.st_rule.proofs.Items.{threads_go, none_begun}
-use Rattle.st_rule.proofs.Walks.{walks_kept}
 
 head_none : (count new : ℕ) → new ≡ counter_word count 0 → head_in new ≡ 0
 head_none count new e = ap head_in e ∙ omega arith
@@ -66,6 +65,6 @@ module _ (m : Meaning) (g : Groups m) (program : Program) (source : Data) (limit
           names = g.names_kept program source h behind.0 x w s a v meant.items r.threads r.names is can careful (names_know m g program source limits h0 h x r w is s can careful) f d behind.1;
           output = g.output_kept program source h behind.0 x w s a v r.threads r.output behind.1;
           within = g.limits_kept program source limits h0 h behind.0 x w s a v meant.items meant.met numbered r.threads r.within is can careful (limits_know m g program source limits h0 h x r w is s can) f d behind.1;
-          walks = walks_kept m x r.walks meant.made_ready w s a v careful;
+          walks = g.walks_kept x w s a v meant.made_ready r.walks careful;
         };
       }

@@ -28,7 +28,7 @@ use Rattle.st_rule.specs.Rule.{Rule}
 use Rattle.st_rule.specs.Laws.{OneOn, RunOn, RuleMoves}
 use Rattle.st_rule.proofs.Groups.{Groups}
 use Rattle.st_rule.proofs.Facts.{seen_heap, single}
-use Rattle.st_rule.proofs.Walks.{over}
+use Rattle.st_walks.proofs.Walks.{over}
 
 -- the groups that no heap is behind
 record Ground (y : World) : Type 0 where

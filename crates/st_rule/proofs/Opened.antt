@@ -1,7 +1,5 @@
 -- A board that is opened for the root's thread has the rule: rule_opened; and what it means that nothing is active: rule_rests.
-use Rattle.std.proofs.Common.{◌≡◌, ◌≢◌, ◌⊎◌, inl, inr, ⊎_elim, ℕ, ◌/◌, ◌<◌, List, [], ◌∷◌, ◌++◌, Option, Some, None, refl, sym, subst}
-use mathlib.Core.Logic.{dite}
-use native.Mathlib.Decide.{ℕ_discrete}
+use Rattle.std.proofs.Common.{◌≡◌, ◌≢◌, ◌⊎◌, inl, inr, ⊎_elim, ℕ, ◌<◌, List, [], ◌∷◌, ◌++◌, Option, Some, None, refl, sym, subst}
 use Rattle.std.specs.List.{Contains}
 use Rattle.st_base.specs.declared.chain.Chain.{Chain}
 use Rattle.st_base.specs.declared.limits.Limits.{Limits}
@@ -9,11 +7,9 @@ use Rattle.st_base.specs.declared.thread.Thread.{Thread}
 use Rattle.st_words.specs.declared.view.Slot.{Slot}
 use Rattle.st_words.specs.declared.view.Carried.{Carried}
 use Rattle.st_words.specs.declared.view.Slot.TheVariants.{Cell, Mail}
-use Rattle.st_words.specs.declared.view.Cargo.{Cargo}
 use Rattle.st_words.specs.declared.view.Child.{Child}
 use Rattle.st_words.specs.declared.view.Known.{Known}
 use Rattle.st_words.specs.Careful.{Meaning, TopIs}
-use Rattle.st_words.specs.Plain.{first_words, first_cargoes, first_views, root_cargo, root_chain}
 use Rattle.st_model.specs.declared.program.Program.{Program}
 use Rattle.st_model.specs.Memory.{Data}
 use Rattle.st_model.specs.Heap.{Path, Heap, new_thread}
@@ -21,14 +17,11 @@ use Rattle.st_words.proofs.Lists.{contains_here, contains_later, contains_case, 
 use Rattle.st_made.specs.Items.{IsLive}
 use Rattle.st_made.specs.Runs.{all_known, known_of}
 use Rattle.st_world.specs.World.{World, slot_of, cargo_of}
-use Rattle.st_world.specs.OfPlain.{world_of}
-use Rattle.st_world.proofs.Opened.{home_first, home_other, post_none, cargo_first}
 use Rattle.st_spots.specs.Listing.{Lists}
 use Rattle.st_seats.specs.Placing.{Place, InMail, InTurn, OnStack, PlaceHolds, MailHolds, Places}
 use Rattle.st_seats.specs.Laws.{IsIdle}
 use Rattle.st_seats.proofs.MovedLists.{map_has}
 use Rattle.st_threads.proofs.Lists.{known_case}
-use Rattle.st_rule.specs.Walking.{SlotWalks, Walking}
 use Rattle.st_rule.specs.Rule.{Rule}
 use Rattle.st_rule.specs.Laws.{RuleOpened, RuleRests}
 use Rattle.st_rule.proofs.Groups.{Groups}
@@ -41,20 +34,6 @@ no_top P (t ∷ ts) e top = let no : ⊥ = cc in no
 none_named : (o : Option Child) → (o ≢ None → ⊥) → o ≡ None
 none_named None n = refl
 none_named (Some x) n = absurd (n (λ e. let no : ⊥ = cc in no))
-
-module _ (m : Meaning) (limits : Limits) (n : ℕ) (thread : Thread) (root : m.walks (root_cargo thread) root_chain) where
-  abbrev world : World
-  world = world_of (limits.stack / 8) (first_words limits n) (first_cargoes limits n thread) (first_views limits n)
-
-  at_root : SlotWalks m (Cell 0) (world.home 0) (world.home_cargo 0)
-  at_root = subst (λ (o : Option Chain). SlotWalks m (Cell 0) o (world.home_cargo 0)) (sym (home_first limits n))
-      (subst (λ (k : Cargo). SlotWalks m (Cell 0) (Some root_chain) k) (sym (cargo_first limits n thread)) (root, λ d. absurd (d refl)))
-
-  pub first_walks : Walking m (slot_of world) (cargo_of world)
-  first_walks (Cell c) = dite (ℕ_discrete c 0)
-      (λ (e : c ≡ 0). subst (λ (k : ℕ). SlotWalks m (Cell k) (world.home k) (world.home_cargo k)) (sym e) at_root)
-      (λ (d : c ≢ 0). subst (λ (o : Option Chain). SlotWalks m (Cell c) o (world.home_cargo c)) (sym (home_other limits n c d)) tt)
-  first_walks (Mail v) = subst (λ (o : Option Chain). SlotWalks m (Mail v) o (world.post_cargo v)) (sym (post_none limits n v)) tt
 
 none_in : {X : Type 0} (xs : List X) (y : X) → xs ≡ [] → Contains xs y → ⊥
 none_in {X} xs y e at = contains_none y (subst (λ (zs : List X). Contains zs y) e at)
@@ -108,7 +87,7 @@ module _ (m : Meaning) (g : Groups m) (program : Program) (source : Data) (limit
         names = g.names_first program source s limits workers start;
         output = g.output_first s limits workers;
         within = g.limits_first program source s limits workers start;
-        walks = first_walks m limits workers thread (meant.root s start);
+        walks = g.walks_first limits workers thread (meant.root s start);
       }
 
   idle : (h0 h : Heap) (x : World) (r : Rule m program source limits h0 h x) → x.active ≡ 0 → (w : ℕ) → w < x.workers → IsIdle (x.view w)

@@ -20,7 +20,7 @@ use Rattle.st_model.specs.Memory.{Data}
 use Rattle.st_model.specs.Heap.{Heap}
 use Rattle.st_world.specs.World.{World, slot_of, cargo_of, Finds}
 use Rattle.st_rule.specs.Rule.{Rule}
-use Rattle.st_rule.specs.Walking.{SlotWalks}
+use Rattle.st_walks.specs.Walking.{SlotWalks}
 use Rattle.st_rule.specs.Laws.{RuleTold, RuleComes}
 use Rattle.st_rule.proofs.Groups.{Groups}
 use Rattle.st_rule.proofs.Facts.{kind_known}

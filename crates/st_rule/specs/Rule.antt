@@ -1,11 +1,9 @@
 -- The lease rule. Read Rule, which is of a world and a heap of the heap-frame machine behind it: all groups hold of the words, the slots and the views of all workers. Nothing in it
 -- speaks of what keeps the words, so a board over vectors and one over a table have the same rule. IsMeant says what a Meaning has to be for it.
 use Rattle.std.specs.Prelude.{◌≡◌, Some}
-use Rattle.st_base.specs.declared.chain.Chain.{Chain}
 use Rattle.st_base.specs.declared.limits.Limits.{Limits}
-use Rattle.st_words.specs.declared.view.Cargo.{Cargo}
 use Rattle.st_words.specs.Careful.{Meaning}
-use Rattle.st_words.specs.Plain.{readied, root_cargo, root_chain}
+use Rattle.st_words.specs.Plain.{root_cargo, root_chain}
 use Rattle.st_model.specs.declared.program.Program.{Program}
 use Rattle.st_model.specs.declared.ordinary.State.{State}
 use Rattle.st_model.specs.Memory.{Data}
@@ -24,13 +22,14 @@ use Rattle.st_threads.specs.Holding.{Threads}
 use Rattle.st_names.specs.Naming.{Named}
 use Rattle.st_output.specs.Showing.{Output}
 use Rattle.st_limits.specs.Stopping.{MeansLimits, Within}
-use Rattle.st_rule.specs.Walking.{Walking}
+use Rattle.st_walks.specs.Walking.{Walking}
+use Rattle.st_walks.specs.Laws.{MadeReady}
 
 -- what the program means to a board is what the machine does; that a chain walks doesn't hang on whether it counts as active, and the root's first chain does
 pub record IsMeant (m : Meaning) (program : Program) (source : Data) (limits : Limits) : Type 0 where
   pub items : MeansItems program source m
   pub met : MeansLimits program source limits m
-  pub made_ready : (cargo : Cargo) (chain : Chain) → m.walks cargo chain → m.walks (readied cargo) chain
+  pub made_ready : MadeReady m
   pub root : (s : State) → start program source ≡ Some s → m.walks (root_cargo (new_thread s.top s.registers)) root_chain
 
 pub record Rule (m : Meaning) (program : Program) (source : Data) (limits : Limits) (h0 h : Heap) (x : World) : Type 0 where

@@ -18,7 +18,8 @@ use Rattle.st_words.specs.Plain.{readied}
 use Rattle.st_world.specs.Functions.{put}
 use Rattle.st_world.specs.World.{World, slot_of, cargo_of, with_word, seen, waking, world_after}
 use Rattle.st_world.proofs.Functions.{put_here, put_other, put_all}
-use Rattle.st_rule.specs.Walking.{SlotWalks, Walking}
+use Rattle.st_walks.specs.Walking.{SlotWalks, Walking}
+use Rattle.st_walks.specs.Laws.{MadeReady, Kept}
 
 -- two functions are changed at one number
 pub both_put : {A B : Type 0} (P : ℕ → A → B → Type 0) (f : ℕ → A) (g : ℕ → B) (i : ℕ) (a : A) (b : B) (j : ℕ) → P i a b → (j ≢ i → P j (f j) (g j)) → P j (put f i a j) (put g i b j)
@@ -59,21 +60,21 @@ module _ (m : Meaning) (x : World) (walking : Walking m (slot_of x) (cargo_of x)
   shows_ready k (waits.Join cell least) s = s
   shows_ready k waits.Trapped s = s
 
-  ready_walks : (made : (cargo : Cargo) (chain : Chain) → m.walks cargo chain → m.walks (readied cargo) chain) (c : ℕ) (o : Option Chain) (cargo : Cargo) → HomeWalks c o cargo → HomeWalks c o (readied cargo)
+  ready_walks : (made : MadeReady m) (c : ℕ) (o : Option Chain) (cargo : Cargo) → HomeWalks c o cargo → HomeWalks c o (readied cargo)
   ready_walks made c None cargo h = tt
   ready_walks made c (Some chain) cargo h = (made cargo chain h.0, λ n. shows_ready cargo.carried cargo.carried.wait (h.1 n))
 
-  one_ready : (made : (cargo : Cargo) (chain : Chain) → m.walks cargo chain → m.walks (readied cargo) chain) (c k : ℕ) → HomeWalks k (x.home k) (put x.home_cargo c (readied (x.home_cargo c)) k)
+  one_ready : (made : MadeReady m) (c k : ℕ) → HomeWalks k (x.home k) (put x.home_cargo c (readied (x.home_cargo c)) k)
   one_ready made c k = put_all (λ j cargo. HomeWalks j (x.home j) cargo) x.home_cargo c (readied (x.home_cargo c)) k (λ e. subst (λ (j : ℕ). HomeWalks j (x.home j) (readied (x.home_cargo c))) (sym e) (ready_walks made c (x.home c) (x.home_cargo c) (walking (Cell c)))) (λ n. walking (Cell k))
 
-  stands : (made : (cargo : Cargo) (chain : Chain) → m.walks cargo chain → m.walks (readied cargo) chain) (b : Bool) (w c n : ℕ) (v : View) → Walking m (slot_of (seen w v (waking b c (with_word c Standing n x)))) (cargo_of (seen w v (waking b c (with_word c Standing n x))))
+  stands : (made : MadeReady m) (b : Bool) (w c n : ℕ) (v : View) → Walking m (slot_of (seen w v (waking b c (with_word c Standing n x)))) (cargo_of (seen w v (waking b c (with_word c Standing n x))))
   stands made false w c n v z = over (seen w v (with_word c Standing n x)) refl refl refl refl z
   stands made true w c n v (Cell k) = one_ready made c k
   stands made true w c n v (Mail k) = walking (Mail k)
 
   -- ---- steps
 
-  pub walks_kept : (made : (cargo : Cargo) (chain : Chain) → m.walks cargo chain → m.walks (readied cargo) chain) (w : ℕ) (s : Step) (a : Answer) (v : View) → Careful m (x.view w) s → Walking m (slot_of (world_after x w s a v)) (cargo_of (world_after x w s a v))
+  walks_kept : (made : MadeReady m) (w : ℕ) (s : Step) (a : Answer) (v : View) → Careful m (x.view w) s → Walking m (slot_of (world_after x w s a v)) (cargo_of (world_after x w s a v))
   walks_kept made w (SlotTake (Cell c)) a v careful = in_home (world_after x w (SlotTake (Cell c)) a v) c None no_cargo refl refl refl refl tt
   walks_kept made w (SlotTake (Mail at)) a v careful = in_mail (world_after x w (SlotTake (Mail at)) a v) at None no_cargo refl refl refl refl tt
   walks_kept made w (SlotPut (Cell c) chain cargo) a v careful =
@@ -92,3 +93,6 @@ module _ (m : Meaning) (x : World) (walking : Walking m (slot_of x) (cargo_of x)
   walks_kept made w (StopSet code) (Number n) v careful = over (world_after x w (StopSet code) (Number n) v) refl refl refl refl
   walks_kept made w (RequestChange at old new) (Number n) v careful = over (world_after x w (RequestChange at old new) (Number n) v) refl refl refl refl
   walks_kept made w s a v careful = over (world_after x w s a v) refl refl refl refl
+
+pub step_kept : (m : Meaning) → Kept m
+step_kept m x w s a v made walking careful = walks_kept m x walking made w s a v careful
