@@ -106,4 +106,4 @@ module _ (m : Meaning) (g : Groups m) (program : Program) (source : Data) (limit
   rule_follows h0 h x r = follows m g program source limits h0 h x r
 
   pub fills_once : RuleFillsOnce m program source limits
-  fills_once h0 h x w s a v c r is can careful f future full = (state_stays m g program source limits h0 h x r w is c future full s a v can f, value_stays m g program source limits h0 h x r w is c future full s a v can f)
+  fills_once h0 h x w s a v c r is can f future full = (state_stays m g program source limits h0 h x r w is c future full s a v can f, value_stays m g program source limits h0 h x r w is c future full s a v can f)

@@ -99,9 +99,9 @@ module _ (m : Meaning) (program : Program) (source : Data) (limits : Limits) whe
   abbrev pub RuleFollows : Type 0
   RuleFollows = (h0 h : Heap) (x : World) (r : Rule m program source limits h0 h x) → Follows h0 h x r
 
-  -- a future is filled once: it stays full, with its value, by each careful step
+  -- a future is filled once: it stays full, with its value, by each step that may be asked
   abbrev pub RuleFillsOnce : Type 0
-  RuleFillsOnce = (h0 h : Heap) (x : World) (w : ℕ) (s : Step) (a : Answer) (v : View) (c : ℕ) → Rule m program source limits h0 h x → w < x.workers → Can (x.view w) s → Careful m (x.view w) s → Finds x w s a → is_counter (x.owner c) ≡ false → x.state c ≡ full_word → ((world_after x w s a v).state c ≡ full_word) × ((world_after x w s a v).value c ≡ x.value c)
+  RuleFillsOnce = (h0 h : Heap) (x : World) (w : ℕ) (s : Step) (a : Answer) (v : View) (c : ℕ) → Rule m program source limits h0 h x → w < x.workers → Can (x.view w) s → Finds x w s a → is_counter (x.owner c) ≡ false → x.state c ≡ full_word → ((world_after x w s a v).state c ≡ full_word) × ((world_after x w s a v).value c ≡ x.value c)
 
   -- a board that is opened for the root's thread has the rule
   abbrev pub RuleOpened : Type 0

@@ -21,7 +21,7 @@ use Rattle.st_words.specs.Careful.{IsAtHome}
 use Rattle.st_words.specs.Moves.{suspending, giving, restarting, beginning, exporting, MaySuspend, MayGive, MayRestart, MayBegin}
 use Rattle.st_world.specs.World.{World, slot_of, cargo_of, seen}
 use Rattle.st_world.specs.OfPlain.{world_of}
-use Rattle.st_spots.specs.Listing.{Nowhere, Listed, Rooted, Lists, counters}
+use Rattle.st_spots.specs.Listing.{Nowhere, Listed, Rooted, Lists, counters, IsOpen}
 use Rattle.st_lists.specs.Going.{Stays}
 use Rattle.st_seats.specs.Placing.{Gone, Home, Places, cells_of}
 
@@ -70,16 +70,16 @@ pub record ToldLaws : Type 0 where
   -- a thread that runs has the Standing word 1
   pub stands : (x : World) (l : Lists x) (w c : ℕ) → Places x l → HasThread (x.view w) c → x.standing c ≡ running
 
--- where no worker has a thread, a chain, a named child, a number in hand or ready, or found Root, and no chain is in mail, and Root is taken: each thread is gone, or in
--- its slot, where it has trapped, or is listed and waits for what isn't yet so
+-- the worker has no thread, no chain in its turn, no named child and no number in hand
 pub record IsIdle (v : View) : Type 0 where
   pub threads : v.threads ≡ []
   pub chains : v.chains ≡ []
   pub child : v.child ≡ None
   pub hand : v.hand ≡ []
 
+-- the thread of the cell is gone, or in its slot, where it has trapped, or is listed and waits for what isn't yet so
 abbrev pub IsStill : (x : World) → Lists x → ℕ → Type 0
-IsStill x l c = (x.home c ≡ None) ⊎ ((chain : Chain) × (x.home c ≡ Some chain) × ((x.standing c ≡ trapped) ⊎ ((x.standing c ≡ waits_word) × ((e : ℕ) × (k : ℕ) × (l.spot c ≡ Listed e k)))))
+IsStill x l c = (x.home c ≡ None) ⊎ ((chain : Chain) × (x.home c ≡ Some chain) × ((x.standing c ≡ trapped) ⊎ ((x.standing c ≡ waits_word) × ((e : ℕ) × (k : ℕ) × (l.spot c ≡ Listed e k) × IsOpen (counters x.owner e) (x.state e) e (x.home_cargo c).carried.wait))))
 
 pub record RestLaws : Type 0 where
   -- each thread is in its slot or gone, where all workers are idle and no chain is in mail or counts as active
