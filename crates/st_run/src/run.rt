@@ -15,6 +15,7 @@ ghost use Rattle.st_model.specs.Memory.{Data};
 ghost use Rattle.st_made.specs.Moves.{Made};
 ghost use Rattle.st_made.specs.Events.{Event};
 ghost use Rattle.st_chain.specs.Chains.{Walks};
+ghost use Rattle.st_run.specs.Behind.{Behind, NextDefined};
 ghost use Rattle.st_run.specs.Meanings.{meaning};
 ghost use Rattle.st_run.specs.Plans.{no_program, no_data, least_limits};
 
@@ -29,12 +30,15 @@ use std::marker::Brand;
 /// - `is_for`: the board is for a program with its input and limits. `stays`: what keeps a board the one that it was.
 /// - `laws`: for any program, input and limits, what holds of these with the members of the board. A view is brought forward by what the worker's
 ///   threads make (`Made` of st_made), and a step goes with an item of theirs, or none (`Event`).
+/// - `behind`: what it tells of a worker's threads: a heap that the heap-frame machine reaches has them, with what the worker has counted and seen.
 pub trait RunBoard: Board {
     ghost is_for: { Program → Data → Limits → Self → Type 0 };
 
     ghost stays: { Self → Self → Type 0 };
 
     ghost laws: { (p : Program) (d : Data) (limits : Limits) → RunLaws Self.view Self.serves Self.forward Self.moves Self.says Self.did (is_for p d limits) stays (meaning p d limits) (Made p d) (Event p d) };
+
+    ghost behind: { (p : Program) (d : Data) (limits : Limits) → Behind Self.view Self.serves (is_for p d limits) (Made p d) p d };
 }
 
 /// The program that a board is for, with its input and the limits of the run, which a caller names for contracts alone.
@@ -58,6 +62,11 @@ impl Plan for Brand {
 pub fn run_asks<B: RunBoard, P: Plan>()
     ensures asks { (after : View → Step → Answer → View) → Suffices B.view B.serves B.forward B.moves B.says B.did (B.is_for P.program P.source P.limits) B.stays (meaning P.program P.source P.limits) (Made P.program P.source) (Event P.program P.source) after }
     ensures leaves { (after : View → Step → Answer → View) → Leaves B.view B.serves B.forward B.moves B.says B.did (B.is_for P.program P.source P.limits) B.stays (meaning P.program P.source P.limits) (Made P.program P.source) (Event P.program P.source) after }
+{}
+
+/// The next item of a worker's thread that hasn't stopped reads nothing undefined, on any board for an accepted program.
+pub fn next_defined()
+    ensures { NextDefined }
 {}
 
 /// Takes the chain of a ready number, which stands for its thread. The worker's threads make no item by it.
