@@ -1,6 +1,6 @@
 -- The law of a worker's threads on its machine, StandingSame: they are read from the words of their frames and from the names that the worker has, and from nothing else. So they
 -- stand over more names, and over words that are the same in these frames, whatever else is held.
-use Rattle.std.specs.Prelude.{◌≡◌, ℕ, Bool, List, ◌∷◌}
+use Rattle.std.specs.Prelude.{ℕ, Bool, List, ◌∷◌}
 use Rattle.st_base.specs.declared.chain.Frame.{Frame}
 use Rattle.st_base.specs.declared.thread.Held.{Held}
 use Rattle.st_model.specs.declared.program.Program.{Program}

@@ -1,7 +1,7 @@
 -- The threads of a worker on its machine, the top one first, each with its frames. Read StandsOn (the top thread is at an item of its newest activation), IsForked (it has just
 -- been forked), AtCall (at an
 -- entry of the runtime, which that item has called) and AtLast (at the entry that ends it); HasRoom says where the frames lie to the worker's stack.
-use Rattle.std.specs.Prelude.{◌≡◌, ◌⊎◌, ℕ, ◌+◌, ◌-◌, ◌%◌, ◌^◌, ◌<◌, ◌≤◌, Bool, true, List, [], ◌∷◌, None, Some, replicate, slice_get}
+use Rattle.std.specs.Prelude.{◌≡◌, ◌⊎◌, ℕ, ◌+◌, ◌%◌, ◌^◌, ◌<◌, ◌≤◌, Bool, true, List, [], ◌∷◌, None, Some, replicate, slice_get}
 use Rattle.st_base.specs.declared.chain.Frame.{Frame}
 use Rattle.st_base.specs.declared.reg.Reg.{Reg}
 use Rattle.st_base.specs.declared.reg.Reg.TheVariants as registers
@@ -102,6 +102,7 @@ pub record AtCall (p : Program) (names : List (Held × ℕ)) (holds : ℕ → Bo
   pub function : ProgramFunction
   pub item : Item
   pub has : HasItem p top.function function top.next item
+  pub begun : 0 < top.next
   pub enters : Enters item.kind entry
   pub lies : LiesAt holds function (register u.state registers.S0) f
   pub call : AtEntry Postprocessed p (named_by names) (Below p (named_by names) holds (under p names holds k.note.cell ks rest) older gs) ends f.low u top k.thread.registers function entry
