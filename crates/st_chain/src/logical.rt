@@ -4,6 +4,7 @@ ghost use Rattle.st_model.specs.declared.code.Layout.TheVariants.{Postprocessed}
 ghost use Rattle.st_model.specs.Layout.{saveable, IsCodeOf};
 ghost use Rattle.st_model.specs.Memory.{data_of};
 ghost use Rattle.st_words.specs.Made.{Asked, StepMade};
+ghost use Rattle.st_step.specs.Runs.{AreValues};
 ghost use Rattle.st_chain.specs.Logical.{IsPopped, restarted, with_values};
 ghost use Rattle.st_chain.specs.Forks.{AreRising};
 ghost use Rattle.st_chain.specs.Places.{first_walk, first_place, whole_walk, gone_below, gone_to_bottom};
@@ -102,6 +103,7 @@ impl Logical {
         ensures room { self.new.room ≡ self.old.room }
         ensures stays { self.new.open ≡ self.old.open }
         ensures machine { m.new ≡ restarted c m.old }
+        ensures values { AreValues m.old → AreValues m.new }
     {
         put_chain(m, &c);
         self.notes.push_reserved(c.note);
@@ -126,6 +128,7 @@ impl Logical {
     ) -> Moved
         requires may { MaySuspend (λ x. Asked B.view B.serves B.says B.forward B.moves N.after board.old w x) image.now (data_of image.now.rodata []) wait self.old.notes self.old.open m.old s.old }
         ensures step { (t : Taking) (n : ℕ) → IsCodeOf Postprocessed t.p image.now → t.d ≡ data_of image.now.rodata [] → Suspends t wait self.old.notes self.old.open m.old s.old (suc n) → SuspendStep (λ x a b. StepMade B.view B.serves B.says B.did N.after board.old w x a b) board.old t n self.old.notes self.new.notes self.new.open m.old m.new s.new result board.new }
+        ensures values { AreValues m.old → AreValues m.new }
         ensures room { self.new.room ≡ self.old.room }
         ensures ends { (s.new.lo ≡ s.old.lo) × (s.new.hi ≡ s.old.hi) }
     {
@@ -319,7 +322,8 @@ fn place_in(m: &Machine) -> u32
 
 /// A machine goes on with a chain.
 fn put_chain(m: &mut Machine, c: &Chain)
-    ensures { m.new ≡ restarted c.now m.old }
+    ensures machine { m.new ≡ restarted c.now m.old }
+    ensures values { AreValues m.old → AreValues m.new }
 {
     m.set_reg(Reg::S0, c.fp);
     put_saved(m, &c.saved);
@@ -328,7 +332,8 @@ fn put_chain(m: &mut Machine, c: &Chain)
 
 /// Puts the values into s1 to s11.
 fn put_saved(m: &mut Machine, saved: &[u64; 11])
-    ensures { m.new ≡ with_values 0 saveable saved.now m.old }
+    ensures machine { m.new ≡ with_values 0 saveable saved.now m.old }
+    ensures values { AreValues m.old → AreValues m.new }
 {
     for k in 0..SAVEABLE.len() {
         m.set_reg(SAVEABLE[k], saved[k]);

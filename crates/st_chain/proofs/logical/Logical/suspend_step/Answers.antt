@@ -183,7 +183,7 @@ returns-in-Fork-clause-step g c t n code data_is suspends =
     let down = ap (λ (w : Walk). w.machine) c.go_down.ensures in
     let place : c.pc.result ≡ c.in-Some.walk.machine.pc + 4 = c.pc.ensures ∙ ap (λ (m : State). m.pc) down in
     let next = c.chain_at-next.ensures ∙ (λ i. chain_at (down i) (place i) c.taken-chain.result.note waits.Ready) in
-    let machine : c.put_chain.new.m ≡ restarted (chain_at (downward c.in-Some.walk.machine c.in-Fork.handle c.taken-chain.result.cell) (c.in-Some.walk.machine.pc + 4) c.taken-chain.result.note waits.Ready) c.args.m.now = c.put_chain.ensures ∙ ap (λ (x : Chain). restarted x c.args.m.now) next in (
+    let machine : c.put_chain.new.m ≡ restarted (chain_at (downward c.in-Some.walk.machine c.in-Fork.handle c.taken-chain.result.cell) (c.in-Some.walk.machine.pc + 4) c.taken-chain.result.note waits.Ready) c.args.m.now = c.put_chain.ensures.machine ∙ ap (λ (x : Chain). restarted x c.args.m.now) next in (
       left,
       c.pop-top.ensures.stays ∙ c.take.ensures.after,
       subst (λ (m : State). Cuts (λ x a b. StepMade g.B.Board.view g.B.Board.serves g.B.Board.says g.B.Board.did g.N.NamesView.after c.args.board.now c.args.w x a b) c.args.board.now t t.below c.cut.new.board (λ held. IsTaken t held c.taken-chain.result c.args.s.now × NextGoesOn t held t.below t.below_frames c.args.m.now m)) (sym machine)
@@ -213,3 +213,18 @@ returns-in-End-clause-room g c = c.pop-top-in-End.ensures.room ∙ ap (λ (l : T
 
 pub returns-in-End-clause-ends : goal.returns-in-End-clause-ends
 returns-in-End-clause-ends g c = (refl, refl)
+
+pub returns-in_default-clause-values : goal.returns-in_default-clause-values
+returns-in_default-clause-values g c values = values
+
+pub returns-in-Copy-clause-values : goal.returns-in-Copy-clause-values
+returns-in-Copy-clause-values g c values = values
+
+pub returns-in-Frame-clause-values : goal.returns-in-Frame-clause-values
+returns-in-Frame-clause-values g c values = values
+
+pub returns-in-Fork-clause-values : goal.returns-in-Fork-clause-values
+returns-in-Fork-clause-values g c values = c.put_chain.ensures.values values
+
+pub returns-in-End-clause-values : goal.returns-in-End-clause-values
+returns-in-End-clause-values g c values = values
