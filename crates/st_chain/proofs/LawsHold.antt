@@ -35,11 +35,11 @@ restarts c m has = restarting.restarts c m has
 
 pub restart_stands : RestartStands
 restart_stands p d c cargo names held m accepted has begun more all (inl root) = absurd (begun root.wait)
-restart_stands p d c cargo names held m accepted has begun more all (inr walks) =
+restart_stands p d c cargo names held m accepted has begun more all (inr (walks, can)) =
     let is = restarting.restarts c m has in
     let saved = is.saved in
     let stands = restarting.stands_same cargo.names names more p cargo.words held c.wait c.pc c.fp _ _ cargo.carried.known.thread cargo.frames accepted all saved walks in
-    subst (λ (n : ℕ). StandsFor p names held c.wait c.pc n (value_in (restarted c m)) cargo.carried.known.thread cargo.frames) (sym is.fp) stands
+    (subst (λ (n : ℕ). StandsFor p names held c.wait c.pc n (value_in (restarted c m)) cargo.carried.known.thread cargo.frames) (sym is.fp) stands, can)
 
 -- ---- a cut
 

@@ -1,15 +1,20 @@
 -- Chains: a thread that doesn't run, by its place, its newest frame and s1 to s11, over the words that go with it. Read Walks, which says that a
 -- chain stands for the thread that goes with it: the root that hasn't begun (IsUnbegun), or a thread with frames. StandsFor says of any place, frame
--- pointer and registers what Walks says of those of a chain; its parts are words_ahead, WaitsFor and KeepsFile.
-use Rattle.std.specs.Prelude.{◌≡◌, ◌⊎◌, ℕ, ◌-◌, ◌≤◌, ◌==◌, true, List, [], length, Option, Some, None, slice_index, slice_index_or, if◌then◌else◌}
+-- pointer and registers what Walks says of those of a chain; its parts are words_ahead, WaitsFor and KeepsFile. CanGoOn says of the thread that it hasn't stopped.
+use Rattle.std.specs.Prelude.{◌≡◌, ◌⊎◌, ℕ, ◌-◌, ◌≤◌, ◌==◌, true, List, [], ◌∷◌, length, Option, Some, None, slice_index, slice_index_or, if◌then◌else◌}
 use Rattle.st_base.specs.declared.chain.Chain.{Chain}
 use Rattle.st_base.specs.declared.chain.Frame.{Frame}
 use Rattle.st_base.specs.declared.chain.Waiting.{Waiting}
 use Rattle.st_base.specs.declared.chain.Waiting.TheVariants as waits
+use Rattle.st_base.specs.declared.thread.Activation.{Activation}
 use Rattle.st_base.specs.declared.thread.Held.{Held}
 use Rattle.st_base.specs.declared.thread.Held.TheVariants.{Number, Future, Counter}
+use Rattle.st_base.specs.declared.thread.Standing.TheVariants.{Going}
 use Rattle.st_base.specs.declared.thread.Thread.{Thread}
+use Rattle.st_model.specs.declared.program.Item.{Item}
+use Rattle.st_model.specs.declared.program.ItemKind.TheVariants.{Entry}
 use Rattle.st_model.specs.declared.program.Program.{Program}
+use Rattle.st_model.specs.declared.program.ProgramFunction.{ProgramFunction}
 use Rattle.st_model.specs.Effect.{File}
 use Rattle.st_model.specs.Heap.{new_thread}
 use Rattle.st_model.specs.Memory.{Data}
@@ -17,6 +22,7 @@ use Rattle.st_model.specs.Ordinary.{start}
 use Rattle.st_model.specs.declared.ordinary.State.{State}
 use Rattle.st_words.specs.declared.view.Cargo.{Cargo}
 use Rattle.st_items.specs.Body.{Context}
+use Rattle.st_items.specs.Code.{HasItem}
 use Rattle.st_step.specs.Frames.{Naming, IsHeldAs, HoldsKept, is_kept}
 use Rattle.st_chain.specs.Walk.{word_in, is_held, named_by, FromNewest}
 use Rattle.st_chain.specs.Threads.{AtEnd}
@@ -65,7 +71,21 @@ pub record IsUnbegun (p : Program) (d : Data) (chain : Chain) (thread : Thread) 
   pub root : thread ≡ new_thread first.top first.registers
   pub none : frames ≡ []
 
--- a chain stands for the thread that goes with it
+-- the next item of a thread with these activations calls the entry
+abbrev pub IsAtEntry : Program → ℕ → List Activation → Type 0
+IsAtEntry p entry [] = ⊥
+IsAtEntry p entry (newest ∷ older) = (function : ProgramFunction) × (item : Item) × HasItem p newest.function function newest.next item × (item.kind ≡ Entry entry)
+
+-- it hasn't stopped, and is at the item at which it waits
+abbrev pub CanGoOn : Program → Waiting → Thread → Type 0
+CanGoOn p (waits.Touch cell) thread = (thread.standing ≡ Going) × IsAtEntry p 0x40 thread.activations
+CanGoOn p (waits.Join cell least) thread = (thread.standing ≡ Going) × IsAtEntry p 0x70 thread.activations
+CanGoOn p waits.Ready thread = thread.standing ≡ Going
+CanGoOn p waits.Trapped thread = Prim.Unit
+CanGoOn p waits.Start thread = ⊥
+
+-- a chain stands for the thread that goes with it, which can go on where it waits
 abbrev pub Walks : Program → Data → Chain → Cargo → Type 0
 Walks p d chain cargo =
-    IsUnbegun p d chain cargo.carried.known.thread cargo.frames ⊎ StandsFor p cargo.names cargo.words chain.wait chain.pc chain.fp (saved_value chain.saved) cargo.carried.known.thread cargo.frames
+    IsUnbegun p d chain cargo.carried.known.thread cargo.frames
+    ⊎ (StandsFor p cargo.names cargo.words chain.wait chain.pc chain.fp (saved_value chain.saved) cargo.carried.known.thread cargo.frames × CanGoOn p chain.wait cargo.carried.known.thread)

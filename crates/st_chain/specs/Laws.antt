@@ -31,7 +31,7 @@ use Rattle.st_items.specs.Code.{IsSized}
 use Rattle.st_items.specs.Copied.{copy_address, Older}
 use Rattle.st_chain.specs.Walk.{word_in, is_held, named_by, IsActivation, Below, FromNewest}
 use Rattle.st_chain.specs.Threads.{AtEnd, Lower}
-use Rattle.st_chain.specs.Chains.{StandsFor, Walks}
+use Rattle.st_chain.specs.Chains.{StandsFor, CanGoOn, Walks}
 use Rattle.st_chain.specs.Seen.{AllSame, SameKept, joined, IsEven, AreApart, IsWhole, IsOldest}
 use Rattle.st_chain.specs.Copying.{over, CopyRuns}
 use Rattle.st_chain.specs.Logical.{restarted, IsRestarted}
@@ -87,8 +87,8 @@ CopiesGive =
 abbrev pub Restarts : Type 0
 Restarts = (c : Chain) (m : State) → HasRegisters m → IsRestarted c m (restarted c m)
 
--- a machine that goes on with a chain that has begun stands for its thread, over the words of whoever took it
+-- a machine that goes on with a chain that has begun stands for its thread, which can go on, over the words of whoever took it
 abbrev pub RestartStands : Type 0
 RestartStands =
     (p : Program) (d : Data) (c : Chain) (cargo : Cargo) (names : List (Held × ℕ)) (held : List (Option ℕ)) (m : State) → IsAccepted p → HasRegisters m → c.wait ≢ waits.Start → HasNames cargo.names names → AllSameHeld cargo.words held cargo.frames → Walks p d c cargo
-    → StandsFor p names held c.wait (restarted c m).pc (register (restarted c m) registers.S0) (value_in (restarted c m)) cargo.carried.known.thread cargo.frames
+    → StandsFor p names held c.wait (restarted c m).pc (register (restarted c m) registers.S0) (value_in (restarted c m)) cargo.carried.known.thread cargo.frames × CanGoOn p c.wait cargo.carried.known.thread
