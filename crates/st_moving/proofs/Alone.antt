@@ -1,8 +1,7 @@
 -- A lone thread on a machine: nothing lies below it (newest_alone), its next item follows a call of one word (next_item), and alone puts it together.
 -- With the registers that a call keeps it has its file: kept_file.
-use Rattle.std.proofs.Common.{◌≡◌, inr, ℕ, ◌+◌, ◌*◌, Bool, List, [], ◌∷◌, Option, Some, None, slice_get, refl, ap, sym, ◌∙◌, subst, arith}
+use Rattle.std.proofs.Common.{◌≡◌, inr, ℕ, Bool, List, [], ◌∷◌, Option, None, refl, subst, arith}
 use Rattle.st_base.specs.declared.chain.Frame.{Frame}
-use Rattle.st_base.specs.declared.reg.Reg.TheVariants as registers
 use Rattle.st_base.specs.declared.registers.Pick.TheVariants.{Saved}
 use Rattle.st_base.specs.declared.thread.Activation.{Activation}
 use Rattle.st_base.specs.declared.thread.Held.{Held}
@@ -16,8 +15,7 @@ use Rattle.st_model.specs.Effect.{File, advanced}
 use Rattle.st_model.specs.Layout.{item_size}
 use Rattle.st_words.specs.declared.view.Known.{Known}
 use Rattle.st_step.specs.declared.state.State.{State}
-use Rattle.st_step.specs.Frames.{Naming, HasFile, HasSlots, IsFrameless, HoldsKept, value_in, address_in}
-use Rattle.st_step.specs.Moves.{register}
+use Rattle.st_step.specs.Frames.{Naming, HasFile, IsFrameless, value_in}
 use Rattle.st_items.specs.Body.{Context, Ends, IsOn, IsFramed}
 use Rattle.st_items.specs.Code.{HasItem}
 use Rattle.st_items.proofs.Addresses.{next_address}
@@ -60,8 +58,7 @@ next_item p names holds end pc fp word value a older (f ∷ gs) function item ha
     let own_has = subst (λ (x : ProgramFunction). HasItem p a.function x a.next item) same has in
     let own_one = subst (λ (x : ProgramFunction). item_size Postprocessed x item.kind ≡ 1) same one in
     let behind = next_address Postprocessed p a.function own a.next item own_has in
-    let at = is.at in
-    (
+    let at = is.at in (
       own,
       record {
         here = is.here;

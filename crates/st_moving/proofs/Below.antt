@@ -1,8 +1,7 @@
 -- The thread below one that was suspended stands on the machine that the suspension leaves: read below_goes_on. Machines that are on their ends stay so
 -- over other words: over_words.
-use Rattle.std.proofs.Common.{◌≡◌, inr, ℕ, List, Option, refl, ◌∙◌, arith}
+use Rattle.std.proofs.Common.{inr, ℕ, List, Option, refl, ◌∙◌, arith}
 use Rattle.st_base.specs.declared.chain.Frame.{Frame}
-use Rattle.st_model.specs.Accepted.{IsAccepted}
 use Rattle.st_words.specs.declared.view.Known.{Known}
 use Rattle.st_step.specs.declared.state.State.{State}
 use Rattle.st_step.specs.Runs.{HasRegisters, AreValues, AreWords}

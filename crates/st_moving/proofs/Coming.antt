@@ -4,7 +4,6 @@ use Rattle.std.proofs.Common.{◌≡◌, ℕ, ◌^◌, ◌<◌, List, ◌∷◌,
 use Rattle.std.specs.Prelude.{slice_index_or}
 use Rattle.std.specs.List.{Contains}
 use Rattle.st_base.specs.declared.chain.Frame.{Frame}
-use Rattle.st_base.specs.declared.chain.Waiting.{Waiting}
 use Rattle.st_base.specs.declared.chain.Waiting.TheVariants as waits
 use Rattle.st_base.specs.declared.reg.Reg.TheVariants as registers
 use Rattle.st_base.specs.declared.registers.Pick.TheVariants.{Saved}
@@ -13,21 +12,21 @@ use Rattle.st_base.specs.declared.thread.Held.{Held}
 use Rattle.st_base.specs.declared.thread.Held.TheVariants.{Number, Future, Counter}
 use Rattle.st_base.specs.declared.thread.Standing.TheVariants.{Going}
 use Rattle.st_base.specs.declared.thread.Thread.{Thread}
-use Rattle.st_base.specs.Registers.{write_register, picked}
+use Rattle.st_base.specs.Registers.{picked}
 use Rattle.st_model.specs.declared.code.Layout.TheVariants.{Postprocessed}
 use Rattle.st_model.specs.declared.program.Program.{Program}
 use Rattle.st_model.specs.Accepted.{IsAccepted}
 use Rattle.st_model.specs.Effect.{advanced}
-use Rattle.st_model.specs.Heap.{Change, own}
+use Rattle.st_model.specs.Heap.{own}
 use Rattle.st_model.specs.Layout.{item_size}
 use Rattle.st_model.specs.Memory.{Data}
 use Rattle.st_words.specs.declared.view.Known.{Known}
 use Rattle.st_made.specs.Items.{IsLive, IsPrivate, went}
 use Rattle.st_step.specs.declared.state.State.{State}
-use Rattle.st_step.specs.Frames.{is_kept, value_in}
+use Rattle.st_step.specs.Frames.{value_in}
 use Rattle.st_step.specs.Moves.{register, written}
 use Rattle.st_step.proofs.Writes.{length-written, lo-written, hi-written, zero-written, values-written, register-written_other}
-use Rattle.st_items.specs.Body.{Context, Ends, IsOn}
+use Rattle.st_items.specs.Body.{Ends, IsOn}
 use Rattle.st_items.proofs.KeptFiles.{frameless_kept, frameless_saved, not_kept}
 use Rattle.st_items.proofs.Registers.{IsApart, file_written, frameless_written}
 use Rattle.st_items.proofs.SavedRegisters.{value-written_other}
@@ -37,7 +36,7 @@ use Rattle.st_chain.specs.Chains.{KeepsFile, IsAtEntry}
 use Rattle.st_chain.specs.Copying.{over}
 use Rattle.st_chain.specs.Seen.{SameKept}
 use Rattle.st_standing.specs.Standing.{under}
-use Rattle.st_moving.specs.Moving.{AllCome, Came, Coming, IsAlone, IsPast, Touched, Joined}
+use Rattle.st_moving.specs.Moving.{AllCome, Came, IsAlone, Touched, Joined}
 use Rattle.st_moving.proofs.Alone.{newest_alone, next_item, kept_file, alone}
 use Rattle.st_moving.proofs.Root.{root_stands}
 use Rattle.st_moving.proofs.Waiting.{behind, touching, touch_is, join_is}

@@ -1,8 +1,8 @@
 -- A thread that leaves its worker stands as its chain has to: from an entry of the runtime (from_entry), whose address is low (low_entry), and from an
 -- item's first word (from_item), whose address isn't. all_leave has both.
-use Rattle.std.proofs.Common.{◌≡◌, ◌≢◌, ℕ, ◌+◌, ◌*◌, ◌<◌, ◌≤◌, ◌==◌, Bool, true, false, cond, List, [], ◌∷◌, Option, Some, None, slice_get, refl, ap, sym, ◌∙◌, subst, arith}
+use Rattle.std.proofs.Common.{◌≡◌, ◌≢◌, ℕ, ◌≤◌, ◌==◌, Bool, true, false, cond, List, [], ◌∷◌, Option, Some, None, refl, ap, sym, ◌∙◌, subst, arith}
 use Rattle.std.specs.Prelude.{nat_lt, slice_index_or}
-use Rattle.std.proofs.lemmas.Bool.{ne_eqb, ltb-true, ltb-false, lt-ltb, le-ltb}
+use Rattle.std.proofs.lemmas.Bool.{ne_eqb, ltb-false, le-ltb}
 use Rattle.st_base.specs.declared.chain.Frame.{Frame}
 use Rattle.st_base.specs.declared.chain.Waiting.{Waiting}
 use Rattle.st_base.specs.declared.chain.Waiting.TheVariants as waits
@@ -20,7 +20,7 @@ use Rattle.st_model.specs.Accepted.{IsAccepted, Fits}
 use Rattle.st_model.specs.Effect.{File, runtime_call}
 use Rattle.st_words.specs.declared.view.Known.{Known}
 use Rattle.st_step.specs.declared.state.State.{State}
-use Rattle.st_step.specs.Frames.{Naming, IsHeldAs, HasFile, is_kept, value_in, address_in}
+use Rattle.st_step.specs.Frames.{Naming, HasFile, value_in}
 use Rattle.st_step.specs.Moves.{register}
 use Rattle.st_items.specs.Body.{Context, Ends}
 use Rattle.st_items.specs.Called.{Enters}

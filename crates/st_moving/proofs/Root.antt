@@ -1,5 +1,5 @@
 -- The root on the machine that begins it, at main's first item: read root_stands. What its registers hold is in file_opened.
-use Rattle.std.proofs.Common.{◌≡◌, inl, ℕ, zero, suc, List, [], ◌∷◌, length, replicate, get_or, Option, Some, None, slice_get, refl, sym, ◌∙◌, subst}
+use Rattle.std.proofs.Common.{◌≡◌, inl, ℕ, zero, suc, List, [], length, replicate, get_or, Option, Some, None, slice_get, refl, sym, ◌∙◌, subst}
 use Rattle.std.specs.Prelude.{slice_index_or}
 use Rattle.std.proofs.lemmas.Option.{same_Some}
 use Rattle.st_base.specs.declared.reg.Reg.TheVariants as registers
