@@ -1,2 +1,3 @@
 pub mod RunAsks
 pub mod Opened
+pub mod NextDefined

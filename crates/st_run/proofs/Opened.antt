@@ -4,6 +4,7 @@ use Rattle.st_base.specs.declared.limits.Limits.{Limits}
 use Rattle.st_base.specs.declared.thread.Thread.{Thread}
 use Rattle.st_words.specs.declared.view.View.{View}
 use Rattle.st_words.specs.declared.words.Words.{Words}
+use Rattle.st_words.specs.Encodings.{thread_owner}
 use Rattle.st_words.specs.Views.{no_known}
 use Rattle.st_words.specs.Plain.{Cargoes, first_words, first_cargoes, first_views}
 use Rattle.st_words.proofs.Opening.{first_sized, first_sizes, first_views_count}
@@ -12,7 +13,8 @@ use Rattle.st_model.specs.declared.ordinary.State.{State}
 use Rattle.st_model.specs.Memory.{Data}
 use Rattle.st_model.specs.Ordinary.{start}
 use Rattle.st_model.specs.Heap.{new_thread, first_heap}
-use Rattle.st_world.specs.OfPlain.{world_of}
+use Rattle.st_world.specs.OfPlain.{world_of, reading}
+use Rattle.st_world.proofs.Opened.{led_first, some_cells}
 use Rattle.st_rule.specs.Rule.{Rule}
 use Rattle.st_rule.specs.Laws.{RuleLaws}
 use Rattle.st_run.specs.Meanings.{meaning}
@@ -23,6 +25,11 @@ use Rattle.st_run.specs.Meant.{is_meant}
 abbrev pub root_thread : Option State → Thread
 root_thread None = no_known.thread
 root_thread (Some s) = new_thread s.top s.registers
+
+-- cell 0 is named for it
+root_owner : (limits : Limits) (workers : ℕ) → reading (first_words limits workers).owners 0 ≡ thread_owner 0 0
+unfolding first_words
+root_owner limits workers = led_first limits.cells 0 1 (some_cells limits workers)
 
 module _ (p : Program) (d : Data) (limits : Limits) (laws : RuleLaws (meaning p d limits)) (workers : ℕ) (most : workers ≤ 16) (begins : (first : State) × (start p d ≡ Some first)) where
   first : PlainIsFor p d limits (first_words limits workers) (first_cargoes limits workers (root_thread (start p d))) (first_views limits workers)
@@ -36,6 +43,7 @@ module _ (p : Program) (d : Data) (limits : Limits) (laws : RuleLaws (meaning p 
         is_first = begins.1;
         heap = first_heap s;
         rule = subst (λ (t : Thread). Rule (meaning p d limits) p d limits (first_heap s) (first_heap s) (world_of (limits.stack / 8) (first_words limits workers) (first_cargoes limits workers t) (first_views limits workers))) (sym thread) (laws.opened p d limits s workers (is_meant p d limits) begins.1 (omega (arith, most)));
+        root = root_owner limits workers;
       }
 
   pub opened : (given : Limits) → limits ≡ given → (x : Words) (ls : Cargoes) (vs : List View) → x ≡ first_words given workers → ls ≡ first_cargoes given workers (root_thread (start p d)) → vs ≡ first_views given workers → PlainIsFor p d limits x ls vs

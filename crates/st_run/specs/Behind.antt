@@ -1,6 +1,6 @@
 -- What a board for a program tells of the threads of a worker whose view is brought forward. Read IsBehind: there is a heap that the heap-frame machine reaches, in which they are, and in
 -- which all that the view has seen is so; and what the worker counts of them is so. Behind says it of a board, and NextDefined what follows of their next items.
-use Rattle.std.specs.Prelude.{◌≡◌, ◌≢◌, ℕ, ◌^◌, ◌<◌, ◌≤◌, List, [], length, Some}
+use Rattle.std.specs.Prelude.{◌≡◌, ◌≢◌, ℕ, ◌^◌, ◌<◌, ◌≤◌, [], length, Some}
 use Rattle.std.specs.List.{Contains}
 use Rattle.st_base.specs.declared.chain.Frame.{Frame}
 use Rattle.st_words.specs.declared.view.Known.{Known}

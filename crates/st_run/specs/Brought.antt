@@ -81,4 +81,5 @@ module _ (p : Program) (d : Data) (limits : Limits) (laws : RuleLaws (meaning p 
         is_first = r.is_first;
         heap = on.heap;
         rule = subst (λ (y : World). Rule (meaning p d limits) p d limits (first_heap r.first) on.heap y) (sym (world_brought each x ls vs w u l)) on.rule;
+        root = r.root;
       }

@@ -6,3 +6,7 @@ pub mod Meant
 pub mod Rules
 pub mod Brought
 pub mod PlainLaws
+pub mod Pigeons
+pub mod Children
+pub mod Noted
+pub mod PlainBehind

@@ -1,6 +1,7 @@
 -- A board over vectors has the laws of a board for a program: plain_laws, by those of the rule, for any type whose values show words, cargoes and views of such a board.
 -- The proof stands here since the laws of an impl may name no proofs of its crate.
-use Rattle.std.proofs.Common.{◌≡◌, ℕ, ◌*◌, ◌/◌, ◌<◌, List, length, Some, refl, sym, ◌∙◌, ap, subst, slice_set, length-set}
+use Rattle.std.proofs.Common.{◌≡◌, ◌≢◌, ℕ, ◌*◌, ◌/◌, ◌<◌, List, length, Some, refl, sym, ◌∙◌, ap, subst, arith, slice_set, length-set, get_or-set_other}
+use Rattle.std.specs.List.{Contains}
 use Rattle.st_base.specs.declared.chain.Chain.{Chain}
 use Rattle.st_base.specs.declared.limits.Limits.{Limits}
 use Rattle.st_words.specs.declared.view.CellWord.{CellWord}
@@ -10,6 +11,7 @@ use Rattle.st_words.specs.declared.view.Slot.TheVariants.{Cell, Mail}
 use Rattle.st_words.specs.declared.view.Cargo.{Cargo}
 use Rattle.st_words.specs.declared.view.View.{View}
 use Rattle.st_words.specs.declared.words.Words.{Words}
+use Rattle.st_words.specs.Encodings.{thread_owner}
 use Rattle.st_words.specs.Steps.{Step, StackStore, Mark, CellStore, CellChange, StopSet, RequestChange, SlotTake, SlotPut, Answer, Number, Took, Can}
 use Rattle.st_words.specs.Views.{Does, IsFree}
 use Rattle.st_words.specs.Plain.{Cargoes, view_at, Exact, Left, words_after}
@@ -27,7 +29,7 @@ use Rattle.st_made.specs.Moves.{Made}
 use Rattle.st_made.specs.Events.{Event}
 use Rattle.st_made.proofs.Making.{made_is_free, made_stays}
 use Rattle.st_world.specs.World.{World}
-use Rattle.st_world.specs.OfPlain.{world_of}
+use Rattle.st_world.specs.OfPlain.{world_of, reading}
 use Rattle.st_world.proofs.OfPlain.{placed, finds, leaves}
 use Rattle.st_rule.specs.Rule.{Rule}
 use Rattle.st_rule.specs.Laws.{RuleLaws}
@@ -65,6 +67,39 @@ left_counts : (x : Words) (ls : Cargoes) (vs : List View) (w : ℕ) (s : Step) (
 left_counts x ls vs w s a x' ls' vs' left =
     let same = same_counts x w s a in
     record { workers = left.workers; cells = ap (λ (y : Words). length y.owners) left.words ∙ same.0; stack = ap (λ (y : Words). length y.stack) left.words ∙ same.1 }
+
+-- ---- nor what cell 0 is named for, since only a cell that isn't named yet is named
+
+abbrev NamesNew : Words → Step → Type 0
+NamesNew x (CellStore c Owner n) = reading x.owners c ≡ 0
+NamesNew x s = Prim.Unit
+
+names_new : (x : Words) (u : View) (s : Step) → Can u s → ((c : ℕ) → Contains u.drawn c → reading x.owners c ≡ 0) → NamesNew x s
+names_new x u (CellStore c Owner n) can unnamed = unnamed c can.1.0
+names_new x u s can unnamed = tt
+
+cell_root : (x : Words) (w c : ℕ) (word : CellWord) (n : ℕ) (a : Answer) → NamesNew x (CellStore c word n) → reading x.owners 0 ≡ thread_owner 0 0 → reading (words_after x w (CellStore c word n) a).owners 0 ≡ thread_owner 0 0
+unfolding words_after
+cell_root x w c Owner n a new root =
+    let other : 0 ≢ c = λ e. let none : reading x.owners 0 ≡ 0 = subst (λ (d : ℕ). reading x.owners d ≡ 0) (sym e) new in omega (arith, none, root) in
+    get_or-set_other x.owners c 0 n 0 other ∙ root
+cell_root x w c State n a new root = root
+cell_root x w c Value n a new root = root
+cell_root x w c Next n a new root = root
+cell_root x w c Standing n a new root = root
+cell_root x w c Trap n a new root = root
+
+root_stays : (x : Words) (w : ℕ) (s : Step) (a : Answer) → NamesNew x s → reading x.owners 0 ≡ thread_owner 0 0 → reading (words_after x w s a).owners 0 ≡ thread_owner 0 0
+unfolding words_after
+root_stays x w (CellStore c word n) a new root = cell_root x w c word n a new root
+root_stays x w (CellChange c old new) (Number n) none root = root
+root_stays x w (StopSet code) (Number n) new root = root
+root_stays x w (RequestChange at old new) (Number n) none root = root
+root_stays x w (SlotTake (Cell c)) a new root = root
+root_stays x w (SlotTake (Mail v)) a new root = root
+root_stays x w (SlotPut (Cell c) chain cargo) a new root = root
+root_stays x w (SlotPut (Mail v) chain cargo) a new root = root
+root_stays x w s a new root = root
 
 -- ---- the laws
 
@@ -160,6 +195,7 @@ module _ {Self : Type 0} (words : Self → Words) (cargoes : Self → Cargoes) (
         is_first = g.is_first;
         heap = on.heap;
         rule = subst (λ (y : World). Rule means p d limits (first_heap g.first) on.heap y) (sym same) on.rule;
+        root = subst (λ (y : Words). reading y.owners 0 ≡ thread_owner 0 0) (sym left.words) (root_stays (words b) w s a (names_new (words b) (view_at us w) s can ((g.rule.draws.views w).unnamed)) may.here.root);
       }
 
   pub plain_laws : RunLaws view serves forward moves says did is_for stays means (Made p d) (Event p d)

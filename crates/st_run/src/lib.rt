@@ -4,6 +4,7 @@
 //! - `plain` has the board over vectors, which is one, and opens it for a program.
 //!
 //! What a program means to a board is `meaning` (`specs/Meanings.antt`), and when a board over vectors is for it `PlainIsFor` (`specs/OfPlain.antt`).
+//! What a board tells of a worker's threads is `Behind` (`specs/Behind.antt`); of a board over vectors it is proved in `specs/PlainBehind.antt`.
 #![tactic(auto)]
 
 pub mod plain;

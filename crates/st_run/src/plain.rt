@@ -5,6 +5,7 @@ ghost use Rattle.st_model.specs.declared.ordinary.State.{State};
 ghost use Rattle.st_model.specs.Ordinary.{start};
 ghost use Rattle.st_run.specs.OfPlain.{PlainIsFor, StaysSized};
 ghost use Rattle.st_run.specs.PlainLaws.{plain_laws};
+ghost use Rattle.st_run.specs.PlainBehind.{plain_behind};
 ghost use Rattle.st_run.specs.Rules.{rules};
 
 use crate::run::{Plan, RunBoard};
@@ -19,6 +20,8 @@ impl RunBoard for PlainBoard {
     ghost stays = { λ b c. StaysSized b.words b.kept.views c.words c.kept.views };
 
     ghost laws = { λ p d limits. plain_laws (λ b. b.words) (λ b. b.kept.cargoes) (λ b. b.kept.views) (λ b. b.sized) p d limits (rules p d limits) };
+
+    ghost behind = { λ p d limits. plain_behind (λ b. b.words) (λ b. b.kept.cargoes) (λ b. b.kept.views) p d limits (rules p d limits) };
 }
 
 /// Opens the board over vectors for so many workers and the plan's program, which begins: the root's chain lies in its slot, and no worker has

@@ -1,0 +1,10 @@
+pub mod Unchanged
+pub mod ForkRegisters
+pub mod Begins
+pub mod Ends
+pub mod Moves
+pub mod Back
+pub mod Handles
+pub mod Printing
+pub mod Forking
+pub mod Entries
