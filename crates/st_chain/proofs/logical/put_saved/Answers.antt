@@ -11,8 +11,7 @@ use Rattle.st_chain.proofs.logical.put_saved.Goals as goal
 pub loop-k-preserved : goal.loop-k-preserved
 loop-k-preserved c =
     let k = c.loop-k.k in
-    let saved = c.args.saved.now in
-    (
+    let saved = c.args.saved.now in (
       ap (with_values (k + 1) (drop (k + 1) saveable) saved) c.set_reg.ensures ∙ sym (ap (λ (rs : List Reg). with_values k rs saved c.loop-k.m) (drop_more saveable k registers.Zero c.loop-k-test.true)) ∙ c.loop-k.invariant.0,
       λ values. subst AreValues (sym c.set_reg.ensures) (values-written c.loop-k.m _ _ (c.loop-k.invariant.1 values) (omega arith)),
     )
