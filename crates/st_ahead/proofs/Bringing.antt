@@ -18,7 +18,7 @@ use Rattle.st_ahead.specs.Laws.{BroughtIsMade, SeesOne, ItemsAreBrought}
 use Rattle.st_ahead.proofs.Seen.{going_decides, private_decides, seen_enough, enough_seen}
 
 -- the view whose top thread has begun its next item, and the one after it
-abbrev begun_view : View → Known → List Known → View
+abbrev pub begun_view : View → Known → List Known → View
 begun_view v top rest = record v { threads = record top { begun = true } ∷ rest; items = v.items + 1 }
 
 abbrev made_view : Program → View → Known → List Known → Change → View
@@ -27,11 +27,11 @@ made_view program v top rest c = record v { threads = went top c.own ∷ rest; i
 abbrev OneItem : Program → Data → View → View → Type 0
 OneItem program source v u = (y : View) × Begins program source v y × MakesItem program source y u
 
-if_then : {A : Type 0} (b : Bool) (o : Option A) (z : A) → (if b then o else None) ≡ Some z → (b ≡ true) × (o ≡ Some z)
+pub if_then : {A : Type 0} (b : Bool) (o : Option A) (z : A) → (if b then o else None) ≡ Some z → (b ≡ true) × (o ≡ Some z)
 if_then true o z e = (refl, e)
 if_then false o z e = absurd (none-some z e)
 
-not_true : (b : Bool) → not b ≡ true → b ≡ false
+pub not_true : (b : Bool) → not b ≡ true → b ≡ false
 not_true true e = let no : ⊥ = cc in absurd no
 not_true false e = refl
 

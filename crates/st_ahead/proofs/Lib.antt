@@ -1,2 +1,4 @@
 pub mod Seen
 pub mod Bringing
+pub mod Exporting
+pub mod Named

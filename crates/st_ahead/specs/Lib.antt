@@ -1,2 +1,4 @@
 pub mod Ahead
 pub mod Laws
+pub mod Naming
+pub mod NamingLaws

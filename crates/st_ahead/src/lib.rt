@@ -1,6 +1,7 @@
-//! What a worker's view comes to by private items of its top thread, as a function.
+//! What a worker's view comes to by what the worker does by itself, as functions of the view.
 //!
-//! `laws` has that it is just what such items lead to; `specs/Ahead.antt` has the definition.
+//! `specs/Ahead.antt` has the private items of the top thread, one behind the other, and `specs/Naming.antt` the other moves; `laws` has that
+//! each is made by the worker itself, and that the items are just those that lead there.
 #![tactic(auto)]
 
 pub mod laws;
