@@ -182,7 +182,7 @@ module _ (p : Program) (d : Data) (held : ℕ → Bool) (names : Naming) (older 
   back_is : IsBack ends.lo ends.hi t.word fp regs t.state (with_caller t.word fp regs first)
   back_is = back_over ends.lo ends.hi t.word fp regs t.state (with_caller t.word fp regs first) fp (called_back ends.lo ends.hi t.word fp function first at.line.body.machine.words is_first)
 
-  freed : ends.sp < fp → fp ≤ ends.gp → Leaves Postprocessed p d held older ends t top
+  pub freed : ends.sp < fp → fp ≤ ends.gp → Leaves Postprocessed p d held older ends t top
   freed less most =
       let machine = at.line.body.machine in
       let sp = machine.sp in
@@ -200,31 +200,37 @@ module _ (p : Program) (d : Data) (held : ℕ → Bool) (names : Naming) (older 
             (inl (less, most, (refl, value-written_same n registers.Sp fp back_is.machine.has_registers.count refl))),
       )
 
-  marked : (fp ≤ ends.sp) ⊎ (ends.gp < fp) → Leaves Postprocessed p d held older ends t top
+  -- behind the mark and the jump back
+  abbrev pub marked_there : Situation
+  marked_there = record { state = at_place (t.word (return_word fp)) (with_caller t.word fp regs first); word = stored (return_word fp) 0 t.word }
+
+  pub marked : (fp ≤ ends.sp) ⊎ (ends.gp < fp) → Comes Postprocessed p d held t marked_there × Left Postprocessed older ends fp t top marked_there
   marked why =
       let machine = at.line.body.machine in
       let sp = machine.sp in
       let gp = machine.gp in
       let n = with_caller t.word fp regs first in
       let word = stored (return_word fp) 0 t.word in
-      let u : Situation = record { state = at_place (t.word (return_word fp)) n; word = word } in
+      let u = marked_there in
       let there : (fp ≤ register t.state registers.Sp) ⊎ (register t.state registers.Gp < fp) = elim why [ inl most ↦ inl (omega arith) | inr beyond ↦ inr (omega arith) ] in
       let far = low Postprocessed p d held names older ends bottom t top file function item at in
       let law = augmented_law d (code_at Postprocessed p) held function t 0x8000_0000 (item_place Postprocessed function top.next) machine.words (frame Postprocessed p d held names older ends bottom t top file function item at) (code Postprocessed p d held names older ends bottom t top file function item at)
       (base Postprocessed p d held names older ends bottom t top file function item at) (holds Postprocessed p d held names older ends bottom t top file function item at) at.back (record { below = omega arith }) in
       let (count, few, runs) = law.1 there in
       let stays = called_sp ends.lo ends.hi t.word fp function first is_first ∙ value-written_other t.state registers.Tp fp 2 (λ e. absurd (omega (arith, e))) ∙ sp in (
-        u,
         epilogue_leads Postprocessed p d held names older ends bottom t top file function item at (9 + length regs) count u refl (omega arith) few runs,
         left_by Postprocessed p d held names older ends bottom t top file function item at n word back_is (stored_words (return_word fp) 0 t.word (omega arith) machine.words)
             (marked_around Postprocessed p d held names older ends bottom t top file function item at) (inr (why, (refl, stays))),
       )
 
+  marked_leaves : (fp ≤ ends.sp) ⊎ (ends.gp < fp) → Leaves Postprocessed p d held older ends t top
+  marked_leaves why = let (way, left) = marked why in (marked_there, way, left)
+
   augmented_leaves : Leaves Postprocessed p d held older ends t top
   augmented_leaves =
       elim (cases_lt ends.sp fp) [
-        | inl less ↦ elim (cases_lt ends.gp fp) [ inl beyond ↦ marked (inr beyond) | inr most ↦ freed less most ]
-        | inr most ↦ marked (inl most)
+        | inl less ↦ elim (cases_lt ends.gp fp) [ inl beyond ↦ marked_leaves (inr beyond) | inr most ↦ freed less most ]
+        | inr most ↦ marked_leaves (inl most)
       ]
 
 -- ---- either

@@ -19,6 +19,7 @@ pub mod Lines
 pub mod Callers
 pub mod Entering
 pub mod Leaving
+pub mod Marking
 pub mod Linking
 pub mod Returning
 pub mod Ending

@@ -5,6 +5,7 @@ pub mod Ways
 pub mod Body
 pub mod Entered
 pub mod Left
+pub mod Marked
 pub mod Called
 pub mod Copied
 pub mod Laws

@@ -7,7 +7,7 @@
 //!
 //! - `line_goes`: instructions, slots, `li`, branches and jumps;
 //! - `enters` and `prologue_stops`: prologues;
-//! - `leaves`: epilogues, as written and augmented; `returns`: back in the caller;
+//! - `leaves`: epilogues, as written and augmented; `leaves_split`: those that mark their frame, split at the mark; `returns`: back in the caller;
 //! - `call_enters`: calls of functions; `entry_leads` and `entry_back`: those of the runtime;
 //! - `fork_back`, `fork_enters`, `forked_ends` and `parent_goes_on`: forks, and the end of a child;
 //! - `copies` and `copy_stands`: pure copies.

@@ -1,6 +1,6 @@
 -- How the newest activation of a worker's top thread leaves: where its call comes back to is a return address (comes_back), so that its epilogue
--- leaves (item_leaves), with its frame freed or marked (leaves_frame).
-use Rattle.std.proofs.Common.{◌≡◌, ◌⊎◌, inl, inr, ℕ, ◌+◌, ◌%◌, ◌^◌, ◌<◌, ◌≤◌, Bool, List, [], ◌∷◌, ap, sym, ◌∙◌, subst, arith}
+-- leaves (item_leaves), with its frame freed or marked (leaves_frame); where it is marked the way is split at the mark.
+use Rattle.std.proofs.Common.{◌≡◌, inl, inr, ℕ, ◌+◌, ◌%◌, ◌^◌, ◌<◌, ◌≤◌, Bool, List, [], ◌∷◌, ap, sym, ◌∙◌, subst, arith}
 use Rattle.st_base.specs.declared.chain.Frame.{Frame}
 use Rattle.st_base.specs.declared.reg.Reg.TheVariants as registers
 use Rattle.st_base.specs.declared.thread.Activation.{Activation}
@@ -20,7 +20,8 @@ use Rattle.st_items.specs.Body.{Ends, Context}
 use Rattle.st_items.specs.Code.{IsSized}
 use Rattle.st_items.specs.Left.{HowLeft}
 use Rattle.st_items.proofs.Addresses.{address_multiple, place_bounds}
-use Rattle.st_items.proofs.Leaving.{Leaves, leaves}
+use Rattle.st_items.specs.Marked.{IsAway, NeedsNoWords, MarksAt, Marked, behind_mark}
+use Rattle.st_items.proofs.Marking.{LeavesSplit, back_way, leaves_split}
 use Rattle.st_chain.specs.Threads.{Lower}
 use Rattle.st_chain.specs.Walk.{named_by, Below, FromNewest}
 use Rattle.st_chain.proofs.Copying.{below_newest}
@@ -61,27 +62,38 @@ module _ (p : Program) (names : Naming) (holds : ℕ → Bool) (size : IsSized P
 
 -- ---- its frame
 
-pub leaves_frame : (ends : Ends) (t u v : Situation) (f : Frame) (fs gs : List Frame) → fs ≡ f ∷ gs → f.base ≡ register t.state registers.S0 → HowLeft Postprocessed ends (register t.state registers.S0) t u → v.word ≡ u.word → LeavesFrame ends t fs (record ends { sp = register u.state registers.Sp }) v gs
-leaves_frame ends t u v f fs gs frames base (inl (above, limit, (words, sp))) same = record {
+pub leaves_frame : (p : Program) (d : Data) (holds : ℕ → Bool) (ends : Ends) (t u v : Situation) (f : Frame) (fs gs : List Frame) (n : ℕ) → fs ≡ f ∷ gs → f.base ≡ register t.state registers.S0 → HowLeft Postprocessed ends (register t.state registers.S0) t u → (IsAway ends (register t.state registers.S0) → Marked p d holds (register t.state registers.S0) t u) → v.word ≡ u.word → n ≤ 1 → NeedsNoWords Postprocessed p d n u.state v.state
+    → LeavesFrame p d holds ends t fs (record ends { sp = register u.state registers.Sp }) v gs
+leaves_frame p d holds ends t u v f fs gs n frames base (inl (above, limit, (words, sp))) splits same few rest = record {
   f = f;
   frames = frames;
-  how = inl (record { above = omega arith; limit = omega arith; words = same ∙ words; after = ap (λ (n : ℕ). record ends { sp = n }) (sp ∙ sym base) });
+  how = inl (record { above = omega arith; limit = omega arith; words = same ∙ words; after = ap (λ (m : ℕ). record ends { sp = m }) (sp ∙ sym base) });
 }
-leaves_frame ends t u v f fs gs frames base (inr (away, (words, sp))) same = record {
-  f = f;
-  frames = frames;
-  how = inr (record {
-    away = subst (λ (n : ℕ). (n ≤ ends.sp) ⊎ (ends.gp < n)) (sym base) away;
-    words = same ∙ words ∙ ap (λ (n : ℕ). stored (return_word n) 0 t.word) (sym base);
-    after = ap (λ (n : ℕ). record ends { sp = n }) sp;
-  });
-}
+leaves_frame p d holds ends t u v f fs gs n frames base (inr (away, (words, sp))) splits same few rest =
+    let marked = splits away in
+    let s = marked.s in
+    let marks = subst (λ (m : ℕ). MarksAt p d holds m t s) (sym base) marked.marks in
+    let comes = marked.comes ∙ ap (λ (m : ℕ). behind_mark m s) (sym base) in
+    record {
+      f = f;
+      frames = frames;
+      how = inr (record {
+        away = subst (IsAway ends) (sym base) away;
+        words = same ∙ words ∙ ap (λ (m : ℕ). stored (return_word m) 0 t.word) (sym base);
+        after = ap (λ (m : ℕ). record ends { sp = m }) sp;
+        s = s;
+        marks = marks;
+        further = n;
+        few = few;
+        way = back_way p d holds f.base n t s v marks (subst (λ (x : Situation). NeedsNoWords Postprocessed p d n x.state v.state) comes rest);
+      });
+    }
 
 -- ---- the epilogue
 
 pub item_leaves : (p : Program) (d : Data) (names : List (Held × ℕ)) (holds : ℕ → Bool) (ends : Ends) (t : Situation) (k : Known) (fs : List Frame) (ks : List Known) (rest : List (List Frame)) → CanRun p d names holds ends t k fs ks rest → (at : AtItem p d names holds ends t k fs ks rest) → at.item.kind ≡ items.Epilogue
-    → Leaves Postprocessed p d holds (Older p names holds k.note.cell ks rest at.older at.gs) ends t at.top
+    → LeavesSplit p d holds (Older p names holds k.note.cell ks rest at.older at.gs) ends t at.top
 item_leaves p d names holds ends t k fs ks rest can at kind =
     let b = register t.state registers.S0 in
     let back = comes_back p (named_by names) holds can.size k.note.cell ks rest at.older at.gs at.top.kind at.top.kept t.word (with_saved_values t.word b 0 (saved_of at.function) (value_in t.state)) (t.word (caller_word b)) (t.word (return_word b)) at.line.body.framed.below in
-    leaves Postprocessed p d holds (named_by names) (Older p names holds k.note.cell ks rest at.older at.gs) ends at.f.low t at.top k.thread.registers at.function at.item (record { line = at.line; kind = kind; back = back; low = tt })
+    leaves_split p d holds (named_by names) (Older p names holds k.note.cell ks rest at.older at.gs) ends at.f.low t at.top k.thread.registers at.function at.item (record { line = at.line; kind = kind; back = back; low = tt })

@@ -1,6 +1,6 @@
 -- The end of a thread: from where its last epilogue returns, the machine is at the entry that ends it, or the third jump of the fork of the thread below
 -- leads there (last_does).
-use Rattle.std.proofs.Common.{◌≡◌, inr, ℕ, suc, ◌+◌, Bool, List, [], ◌∷◌, refl, sym, ◌∙◌, subst, arith}
+use Rattle.std.proofs.Common.{◌≡◌, inr, ℕ, suc, ◌+◌, ◌≤◌, Bool, List, [], ◌∷◌, refl, sym, ◌∙◌, subst, arith}
 use Rattle.st_base.specs.declared.chain.Frame.{Frame}
 use Rattle.st_base.specs.declared.reg.Reg.{Reg}
 use Rattle.st_base.specs.declared.reg.Reg.TheVariants as registers
@@ -20,6 +20,7 @@ use Rattle.st_items.specs.Body.{Ends, Context}
 use Rattle.st_items.specs.Called.{IsThird}
 use Rattle.st_items.specs.Code.{IsSized}
 use Rattle.st_items.specs.Left.{Left}
+use Rattle.st_items.specs.Marked.{NeedsNoWords}
 use Rattle.st_items.specs.Ways.{Leads, linked}
 use Rattle.st_items.proofs.Addresses.{address_bounds}
 use Rattle.st_items.proofs.KeptFiles.{not_kept}
@@ -49,6 +50,9 @@ pub record Ended (p : Program) (d : Data) (names : List (Held × ℕ)) (holds : 
   pub last : Situation
   pub comes : Leads Postprocessed p d holds t last
   pub words : last.word ≡ u.word
+  pub further : ℕ
+  pub few : further ≤ 1
+  pub way : NeedsNoWords Postprocessed p d further u.state last.state
   pub at : AtLast p names holds ends last cell value ks rest
 
 module _ (p : Program) (d : Data) (names : List (Held × ℕ)) (holds : ℕ → Bool) (ends : Ends) (b : ℕ) (t u : Situation) (top : Activation) (cell value : ℕ) (accepted : IsAccepted p) (size : IsSized Postprocessed p) (way : Comes Postprocessed p d holds t u) (a0 : register t.state registers.A0 ≡ value) where
@@ -75,6 +79,9 @@ module _ (p : Program) (d : Data) (names : List (Held × ℕ)) (holds : ℕ → 
         last = v;
         comes = leads Postprocessed p d holds (suc n) t v (omega arith) (leads_further Postprocessed p d holds n t u v by (inr inside) (jump_makes Postprocessed p d holds u fork_out third.jumps));
         words = refl;
+        further = 1;
+        few = omega arith;
+        way = λ held word. (inr inside, (linked (record { state = u.state; word = word }) fork_out, jump_makes Postprocessed p d held (record { state = u.state; word = word }) fork_out third.jumps, refl));
         at = record {
           machine = linked_on after u fork_out (omega arith) left.machine;
           whole = refl;
@@ -98,6 +105,9 @@ module _ (p : Program) (d : Data) (names : List (Held × ℕ)) (holds : ℕ → 
     last = u;
     comes = comes_leads Postprocessed p d holds t u way;
     words = refl;
+    further = 0;
+    few = omega arith;
+    way = λ held word. refl;
     at = record { machine = left.machine; whole = left.whole; value_is = left.a0 ∙ a0; last = left.stands.1 };
   }
   thread_ends (k ∷ ks) (fs ∷ rest) left = by_third k ks fs rest left

@@ -1,7 +1,7 @@
 -- What the next item of a worker's top thread does on its machine. Read ItemDoes: it goes on to the next item of the thread, or of its caller (GoesOn); it traps
 -- (Traps), or its frame would come below the stack's low end (Overflows); it calls an entry of the runtime (Calls); or it ends the thread (EndsThread). All the machine comes
 -- to is told over words and names that stand still, as Leads of st_items. ItemsDo is the law.
-use Rattle.std.specs.Prelude.{◌≡◌, ◌≢◌, ◌⊎◌, ℕ, ◌+◌, ◌-◌, ◌<◌, ◌≤◌, Bool, List, [], ◌∷◌, Some}
+use Rattle.std.specs.Prelude.{◌≡◌, ◌≢◌, ◌⊎◌, ℕ, suc, ◌+◌, ◌-◌, ◌<◌, ◌≤◌, Bool, List, [], ◌∷◌, Some}
 use Rattle.st_base.specs.declared.chain.Frame.{Frame}
 use Rattle.st_base.specs.declared.thread.Activation.{Activation}
 use Rattle.st_base.specs.declared.thread.Held.{Held}
@@ -19,11 +19,12 @@ use Rattle.st_model.specs.Heap.{Stays, Moves, own, trapped_thread}
 use Rattle.st_model.specs.Memory.{Data}
 use Rattle.st_words.specs.declared.view.Known.{Known}
 use Rattle.st_step.specs.declared.machine.StepEnd.TheVariants.{Trap, StackFull}
-use Rattle.st_step.specs.Moves.{Stops, move_of}
+use Rattle.st_step.specs.Moves.{Stops, move_of, goes_on}
 use Rattle.st_step.specs.Runs.{Situation, return_word, stored}
 use Rattle.st_items.specs.Body.{Ends}
 use Rattle.st_items.specs.Code.{code_at, HasItem, IsSized}
 use Rattle.st_items.specs.Entered.{lowered}
+use Rattle.st_items.specs.Marked.{IsAway, NeedsNoWords, MarksAt}
 use Rattle.st_items.specs.Ways.{Leads}
 use Rattle.st_chain.specs.Seen.{joined}
 use Rattle.st_chain.specs.Taking.{AllApart}
@@ -51,16 +52,22 @@ pub record IsFreed (f : Frame) (ends : Ends) (t : Situation) (ends' : Ends) (u :
   pub words : u.word ≡ t.word
   pub after : ends' ≡ record ends { sp = f.base }
 
-pub record IsMarked (f : Frame) (ends : Ends) (t : Situation) (ends' : Ends) (u : Situation) : Type 0 where
-  pub away : (f.base ≤ ends.sp) ⊎ (ends.gp < f.base)
+-- the way is split at the mark: s is there. Behind it the jump back, and one more instruction at most, need no words.
+pub record IsMarked (p : Program) (d : Data) (holds : ℕ → Bool) (f : Frame) (ends : Ends) (t : Situation) (ends' : Ends) (u : Situation) : Type 0 where
+  pub away : IsAway ends f.base
   pub words : u.word ≡ stored (return_word f.base) 0 t.word
   pub after : ends' ≡ ends
+  pub s : Situation
+  pub marks : MarksAt p d holds f.base t s
+  pub further : ℕ
+  pub few : further ≤ 1
+  pub way : NeedsNoWords Postprocessed p d (suc further) (goes_on s.state) u.state
 
 -- it is left in one of these ways
-pub record LeavesFrame (ends : Ends) (t : Situation) (fs : List Frame) (ends' : Ends) (u : Situation) (fs' : List Frame) : Type 0 where
+pub record LeavesFrame (p : Program) (d : Data) (holds : ℕ → Bool) (ends : Ends) (t : Situation) (fs : List Frame) (ends' : Ends) (u : Situation) (fs' : List Frame) : Type 0 where
   pub f : Frame
   pub frames : fs ≡ f ∷ fs'
-  pub how : IsFreed f ends t ends' u ⊎ IsMarked f ends t ends' u
+  pub how : IsFreed f ends t ends' u ⊎ IsMarked p d holds f ends t ends' u
 
 -- a frame is made at sp
 pub record MakesFrame (ends : Ends) (fs : List Frame) (ends' : Ends) (fs' : List Frame) : Type 0 where
@@ -71,8 +78,8 @@ pub record MakesFrame (ends : Ends) (fs : List Frame) (ends' : Ends) (fs' : List
   pub room : ends.lo ≤ f.low
   pub after : ends' ≡ lowered ends (f.base - f.low)
 
-abbrev pub FramesAfter : Ends → Situation → List Frame → Ends → Situation → List Frame → Type 0
-FramesAfter ends t fs ends' u fs' = ((ends' ≡ ends) × (fs' ≡ fs)) ⊎ (MakesFrame ends fs ends' fs' ⊎ LeavesFrame ends t fs ends' u fs')
+abbrev pub FramesAfter : Program → Data → (ℕ → Bool) → Ends → Situation → List Frame → Ends → Situation → List Frame → Type 0
+FramesAfter p d holds ends t fs ends' u fs' = ((ends' ≡ ends) × (fs' ≡ fs)) ⊎ (MakesFrame ends fs ends' fs' ⊎ LeavesFrame p d holds ends t fs ends' u fs')
 
 -- ---- what it does
 
@@ -89,7 +96,7 @@ module _ (p : Program) (d : Data) (names : List (Held × ℕ)) (holds : ℕ → 
     pub leads : Leads Postprocessed p d holds t u
     pub ends' : Ends
     pub fs' : List Frame
-    pub frames : FramesAfter ends t fs ends' u fs'
+    pub frames : FramesAfter p d holds ends t fs ends' u fs'
     pub stands : StandsOn p names holds ends' u (went k next) fs' ks rest
 
   -- the machine stops at its first word, whose line is that of the item
@@ -136,7 +143,7 @@ module _ (p : Program) (d : Data) (names : List (Held × ℕ)) (holds : ℕ → 
     pub u : Situation
     pub leads : Leads Postprocessed p d holds t u
     pub ends' : Ends
-    pub frames : LeavesFrame ends t fs ends' u []
+    pub frames : LeavesFrame p d holds ends t fs ends' u []
     pub at : AtLast p names holds ends' u k.note.cell value ks rest
 
   abbrev pub ItemDoes : Type 0

@@ -27,7 +27,7 @@ word_of_gap : (z : ℤ) (x y : ℕ) → z ≡ pos x -ℤ pos y → y ≤ x → w
 word_of_gap (pos n) x y is above = omega (arith, ints)
 word_of_gap (negsuc n) x y is above = absurd (omega (arith, ints))
 
-forward : (pc at to n : ℕ) → to ≡ at + n → pc + 4 * n < 2 ^ 32 → from_pc pc (distance at to) ≡ pc + 4 * n
+pub forward : (pc at to n : ℕ) → to ≡ at + n → pc + 4 * n < 2 ^ 32 → from_pc pc (distance at to) ≡ pc + 4 * n
 forward pc at to n is low =
     let above : 4 * at ≤ 4 * to = omega arith in
     let gap = word_of_gap (distance at to) (4 * to) (4 * at) refl above in
@@ -37,20 +37,20 @@ forward pc at to n is low =
 -- ---- the freeing part, from the caller's registers with the base b in tp
 
 -- the state behind the loads
-record IsRestored (held : ℕ → Bool) (lo bytes b ra pc : ℕ) (s : Situation) : Type 0 where
-  base : IsBase lo bytes b
-  holds : HoldsFrame held bytes b
-  room : 8 ≤ bytes
-  tp : register s.state registers.Tp ≡ b
-  ra_is : register s.state registers.Ra ≡ ra
-  target : IsReturn ra
-  low : pc + 24 < 2 ^ 32
+pub record IsRestored (held : ℕ → Bool) (lo bytes b ra pc : ℕ) (s : Situation) : Type 0 where
+  pub base : IsBase lo bytes b
+  pub holds : HoldsFrame held bytes b
+  pub room : 8 ≤ bytes
+  pub tp : register s.state registers.Tp ≡ b
+  pub ra_is : register s.state registers.Ra ≡ ra
+  pub target : IsReturn ra
+  pub low : pc + 24 < 2 ^ 32
 
-bgeu_passes : (a b n : ℕ) → b ≡ n → a < n → is_taken ops.Bgeu a b ≡ false
+pub bgeu_passes : (a b n : ℕ) → b ≡ n → a < n → is_taken ops.Bgeu a b ≡ false
 unfolding is_taken
 bgeu_passes a b n same less = let lt : a < b = omega arith in ap not (lt-ltb a b lt)
 
-bgeu_taken : (a b n : ℕ) → b ≡ n → n ≤ a → is_taken ops.Bgeu a b ≡ true
+pub bgeu_taken : (a b n : ℕ) → b ≡ n → n ≤ a → is_taken ops.Bgeu a b ≡ true
 unfolding is_taken
 bgeu_taken a b n same most = let le : b ≤ a = omega arith in ap not (le-ltb a b le)
 
@@ -58,7 +58,7 @@ bltu_passes : (a b n : ℕ) → b ≡ n → n ≤ a → is_taken ops.Bltu a b �
 unfolding is_taken
 bltu_passes a b n same most = let le : b ≤ a = omega arith in le-ltb a b le
 
-bltu_taken : (a b n : ℕ) → b ≡ n → a < n → is_taken ops.Bltu a b ≡ true
+pub bltu_taken : (a b n : ℕ) → b ≡ n → a < n → is_taken ops.Bltu a b ≡ true
 unfolding is_taken
 bltu_taken a b n same less = let lt : a < b = omega arith in lt-ltb a b lt
 
@@ -134,24 +134,24 @@ marks_second d code held lo bytes b ra pc at keep m word there is has less beyon
 -- ---- augmented epilogues, behind the first instruction
 
 -- what is known there
-record IsLeaving (code : ℕ → Option Ins) (held : ℕ → Bool) (lo bytes b : ℕ) (saved : List Reg) (top : State) (word : ℕ → ℕ) (pc at keep : ℕ) : Type 0 where
-  words : AreWords word
-  above : AreAbove saved
-  room : 16 + 8 * length saved ≤ bytes
-  base : IsBase lo bytes b
-  holds : HoldsFrame held bytes b
-  tp : register top registers.Tp ≡ b
-  long : 1 < length top.registers
-  low : pc + 4 * (8 + length saved) < 2 ^ 32
-  keep_is : keep ≡ at + 6 + length saved
-  code_is : HasCode code pc at (loading_ins saved (freeing_ins keep))
-  target : IsReturn (word (return_word b))
+pub record IsLeaving (code : ℕ → Option Ins) (held : ℕ → Bool) (lo bytes b : ℕ) (saved : List Reg) (top : State) (word : ℕ → ℕ) (pc at keep : ℕ) : Type 0 where
+  pub words : AreWords word
+  pub above : AreAbove saved
+  pub room : 16 + 8 * length saved ≤ bytes
+  pub base : IsBase lo bytes b
+  pub holds : HoldsFrame held bytes b
+  pub tp : register top registers.Tp ≡ b
+  pub long : 1 < length top.registers
+  pub low : pc + 4 * (8 + length saved) < 2 ^ 32
+  pub keep_is : keep ≡ at + 6 + length saved
+  pub code_is : HasCode code pc at (loading_ins saved (freeing_ins keep))
+  pub target : IsReturn (word (return_word b))
 
 module _ (d : Data) (code : ℕ → Option Ins) (held : ℕ → Bool) (lo bytes b : ℕ) (saved : List Reg) (top : State) (word : ℕ → ℕ) (pc at keep : ℕ) (is : IsLeaving code held lo bytes b saved top word pc at keep) where
-  low_is : (q : Reg) → reg_number q < 8 → reg_number q ≢ 1 → register (with_caller word b saved top) q ≡ register top q
+  pub low_is : (q : Reg) → reg_number q < 8 → reg_number q ≢ 1 → register (with_caller word b saved top) q ≡ register top q
   low_is q few other = caller-low word b saved top q is.above few other
 
-  restored_is : IsRestored held lo bytes b (word (return_word b)) (loaded_pc pc (length saved)) (record { state = at_place (loaded_pc pc (length saved)) (with_caller word b saved top); word = word })
+  pub restored_is : IsRestored held lo bytes b (word (return_word b)) (loaded_pc pc (length saved)) (record { state = at_place (loaded_pc pc (length saved)) (with_caller word b saved top); word = word })
   restored_is =
       let low = is.low in
       let room = is.room in
@@ -192,24 +192,24 @@ module _ (d : Data) (code : ℕ → Option Ins) (held : ℕ → Bool) (lo bytes 
 
 -- ---- augmented epilogues
 
-sides : (a b : ℕ) → (a < b) ⊎ (b ≤ a)
+pub sides : (a b : ℕ) → (a < b) ⊎ (b ≤ a)
 sides a b = grind arith
 
 module _ (d : Data) (code : ℕ → Option Ins) (held : ℕ → Bool) (lo bytes : ℕ) (saved : List Reg) (s : Situation) (at : ℕ) (words : AreWords s.word) (above : AreAbove saved) (room : 16 + 8 * length saved ≤ bytes) (has : HasCode code s.state.pc at (augmented_ins at saved)) (base : IsBase lo bytes (register s.state registers.S0)) (holds : HoldsFrame held bytes (register s.state registers.S0)) (target : IsReturn (s.word (return_word (register s.state registers.S0)))) (stretched : IsStretch s.state.pc (9 + length saved)) where
-  abbrev b : ℕ
+  abbrev pub b : ℕ
   b = register s.state registers.S0
 
-  abbrev top : State
+  abbrev pub top : State
   top = written s.state registers.Tp b
 
-  abbrev keep : ℕ
+  abbrev pub keep : ℕ
   keep = at + length saved + 7
 
   -- the code behind the first word
-  abbrev rest : ℕ → Option Ins
+  abbrev pub rest : ℕ → Option Ins
   rest = cut code (s.state.pc + 4) (8 + length saved)
 
-  is_leaving : IsLeaving rest held lo bytes b saved top s.word (s.state.pc + 4) (at + 1) keep
+  pub is_leaving : IsLeaving rest held lo bytes b saved top s.word (s.state.pc + 4) (at + 1) keep
   is_leaving =
       let low = stretched.below in
       let stack = base.stack in
@@ -232,7 +232,7 @@ module _ (d : Data) (code : ℕ → Option Ins) (held : ℕ → Bool) (lo bytes 
       }
 
   -- the first instruction, and the rest behind it
-  leaves : (n count : ℕ) (t : Situation) → count ≡ suc n → ran d rest held n (record { state = at_place (s.state.pc + 4) top; word = s.word }) ≡ Some t → RunsStretch d code held (9 + length saved) count s t
+  pub leaves : (n count : ℕ) (t : Situation) → count ≡ suc n → ran d rest held n (record { state = at_place (s.state.pc + 4) top; word = s.word }) ≡ Some t → RunsStretch d code held (9 + length saved) count s t
   leaves n count t counts goes =
       let low = stretched.below in
       let high = base.high in
@@ -242,7 +242,7 @@ module _ (d : Data) (code : ℕ → Option Ins) (held : ℕ → Bool) (lo bytes 
       (adds d held s registers.Tp registers.S0 (pos 0) b refl same (omega arith))
       goes
 
-  apart : (q : Reg) → reg_number q < 4 → register top q ≡ register s.state q
+  pub apart : (q : Reg) → reg_number q < 4 → register top q ≡ register s.state q
   apart q few = register-written_other s.state registers.Tp q b (λ e. absurd (omega (arith, e)))
 
   augmented_frees : register s.state registers.Sp < b → b ≤ register s.state registers.Gp → RunsStretch d code held (9 + length saved) (7 + length saved) s (record { state = at_place (s.word (return_word b)) (written (with_caller s.word b saved top) registers.Sp b); word = s.word })

@@ -9,6 +9,7 @@ pub mod SavedList
 pub mod Prologues
 pub mod Restoring
 pub mod Freeing
+pub mod Marking
 pub mod Epilogues
 pub mod Steps
 pub mod RolesSuit

@@ -132,7 +132,7 @@ pub record IsWordAddress (a : ℕ) : Type 0 where
   pub low : 0x8000_0000 ≤ a
   pub high : a < 0x8000_0000 + 2 ^ 32
 
-in_word : (a : ℕ) → IsWordAddress a → in_one_word a 8 ≡ true
+pub in_word : (a : ℕ) → IsWordAddress a → in_one_word a 8 ≡ true
 in_word a is =
     let e = is.multiple in
     let whole : a % 8 + 8 ≤ 8 = omega arith in

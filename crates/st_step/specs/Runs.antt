@@ -1,22 +1,23 @@
 -- What stretches of laid out code do on the machine with its stack words: a prologue, an epilogue as written, an augmented epilogue, a pure
 -- copy, and `li`. Read RunsStretch (a stretch is run from its first word, and no place on the way begins another stretch), HasCode (the code at an
--- address), and the laws: RunsPrologue, RunsEpilogue, RunsPureCopy, RunsAugmented, RunsLi. A frame has its base b at the value of sp before
+-- address), and the laws: RunsPrologue, RunsEpilogue, RunsPureCopy, RunsAugmented, RunsToMark (its run split at the mark), RunsLi. A frame has its base b at the value of sp before
 -- its prologue: the return address stands at b - 8, the caller's s0 at b - 16, the k-th saved register at b - 24 - 8k. Its words may lie on
 -- the machine's own stack or on another: the stack that a base is on is told by its low end alone.
-use Rattle.std.specs.Prelude.{Bool, true, false, ◌≡◌, ◌⊎◌, ℕ, zero, suc, ◌+◌, ◌*◌, ◌-◌, ◌%◌, ◌^◌, ◌<◌, ◌≤◌, ℤ, ◌==◌, List, [], ◌∷◌, length, Option, Some, None, slice_index, if◌then◌else◌}
+use Rattle.std.specs.Prelude.{Bool, true, false, ◌≡◌, ◌⊎◌, ℕ, zero, suc, ◌+◌, ◌*◌, ◌-◌, ◌%◌, ◌^◌, ◌<◌, ◌≤◌, ℤ, pos, ◌==◌, List, [], ◌∷◌, length, Option, Some, None, slice_index, if◌then◌else◌}
 use Rattle.st_base.specs.declared.reg.Reg.{Reg}
 use Rattle.st_base.specs.declared.reg.Reg.TheVariants as registers
 use Rattle.st_rv.specs.declared.ins.Ins.{Ins}
+use Rattle.st_rv.specs.declared.ins.Op.TheVariants as ops
 use Rattle.st_rv.specs.Results.{word_of}
 use Rattle.st_model.specs.Memory.{Data}
 use Rattle.st_model.specs.declared.program.ProgramFunction.{ProgramFunction}
 use Rattle.st_model.specs.declared.code.PostedIns.{PostedIns}
 use Rattle.st_model.specs.declared.code.PostedIns.TheVariants as posted
 use Rattle.st_model.specs.Accepted.{HasFrame}
-use Rattle.st_model.specs.Layout.{saved_of, prologue_ins, epilogue_ins, augmented_ins, pure_copy_ins, li_ins, branch_ins, distance, IsWordValue}
+use Rattle.st_model.specs.Layout.{saved_of, prologue_ins, epilogue_ins, augmented_ins, pure_copy_ins, li_ins, branch_ins, store_ins, immediate_ins, below, distance, IsWordValue}
 use Rattle.st_words.specs.Steps.{place_of}
 use Rattle.st_step.specs.declared.state.State.{State}
-use Rattle.st_step.specs.Moves.{Move, Goes, Reads, Writes, Marks, Stops, Outside, move_of, register, written, at_place}
+use Rattle.st_step.specs.Moves.{Move, Goes, Reads, Writes, Marks, Stops, Outside, move_of, register, written, at_place, goes_on, next_pc}
 
 -- ---- runs
 
@@ -140,6 +141,33 @@ restored word b k (r ∷ rs) m = restored word b (k + 1) rs (written m r (word (
 abbrev pub with_caller : (ℕ → ℕ) → ℕ → List Reg → State → State
 with_caller word b saved m = written (restored word b 0 saved (written m registers.Ra (word (return_word b)))) registers.S0 (word (caller_word b))
 
+-- ---- marks
+
+-- the mark of the frame whose base is in tp
+abbrev pub mark_ins : Ins
+mark_ins = store_ins ops.Sd registers.Tp registers.Zero (below 8)
+
+-- the jump to the return place in ra
+abbrev pub back_ins : Ins
+back_ins = immediate_ins ops.Jalr registers.Zero registers.Ra (pos 0)
+
+-- from the first word of an augmented epilogue to the word of its mark, which is its last but one: the caller's registers are loaded
+abbrev pub at_mark : List Reg → Situation → Situation
+at_mark saved s = record {
+  state = at_place (s.state.pc + 4 * (7 + length saved)) (with_caller s.word (register s.state registers.S0) saved (written s.state registers.Tp (register s.state registers.S0)));
+  word = s.word;
+}
+
+-- at the mark of the frame with base b. Behind it stands the jump back, which reads no word: its place is in ra already.
+pub record IsAtMark (d : Data) (code : ℕ → Option Ins) (b : ℕ) (s : Situation) : Type 0 where
+  pub tp : register s.state registers.Tp ≡ b
+  pub ra : register s.state registers.Ra ≡ s.word (return_word b)
+  pub mark : code s.state.pc ≡ Some mark_ins
+  pub marks : move_of d s.state mark_ins ≡ Marks (return_word b) (goes_on s.state)
+  pub next : next_pc s.state.pc ≡ s.state.pc + 4
+  pub back : code (s.state.pc + 4) ≡ Some back_ins
+  pub goes : move_of d (goes_on s.state) back_ins ≡ Goes (at_place (s.word (return_word b)) s.state)
+
 -- ---- the laws
 
 -- a prologue makes a frame at sp and leaves s0 at its base
@@ -175,6 +203,11 @@ RunsAugmented = (d : Data) (code : ℕ → Option Ins) (held : ℕ → Bool) (fu
   state = at_place (s.word (return_word (register s.state registers.S0))) (with_caller s.word (register s.state registers.S0) (saved_of function) (written s.state registers.Tp (register s.state registers.S0)));
   word = stored (return_word (register s.state registers.S0)) 0 s.word;
 }))
+
+-- where an augmented epilogue marks its frame, a run of it comes to the mark first, and has changed no word there
+abbrev pub RunsToMark : Type 0
+RunsToMark = (d : Data) (code : ℕ → Option Ins) (held : ℕ → Bool) (function : ProgramFunction) (s : Situation) (lo at : ℕ) → AreWords s.word → HasFrame function → HasCode code s.state.pc at (augmented_ins at (saved_of function)) → IsBase lo function.frame_bytes (register s.state registers.S0) → HoldsFrame held function.frame_bytes (register s.state registers.S0) → IsReturn (s.word (return_word (register s.state registers.S0))) → IsStretch s.state.pc (9 + length (saved_of function)) → (register s.state registers.S0 ≤ register s.state registers.Sp) ⊎ (register s.state registers.Gp < register s.state registers.S0)
+    → ((count : ℕ) × (count ≤ 5 + length (saved_of function)) × RunsStretch d code held (9 + length (saved_of function)) count s (at_mark (saved_of function) s)) × IsAtMark d code (register s.state registers.S0) (at_mark (saved_of function) s)
 
 -- the words of `li` give its value
 abbrev pub RunsLi : Type 0

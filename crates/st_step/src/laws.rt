@@ -1,6 +1,6 @@
 //! Laws of laid out code, for every machine: each is the contract of a function with an empty body.
 
-ghost use Rattle.st_step.specs.Runs.{RunsLi, RunsPrologue, RunsPureCopy, RunsAugmented, RunsEpilogue};
+ghost use Rattle.st_step.specs.Runs.{RunsLi, RunsPrologue, RunsPureCopy, RunsAugmented, RunsToMark, RunsEpilogue};
 
 /// The words of `li` give its value.
 pub fn runs_li()
@@ -21,6 +21,12 @@ pub fn runs_pure_copy()
 /// marks it.
 pub fn runs_augmented()
     ensures { RunsAugmented }
+{}
+
+/// Where an augmented epilogue marks its frame, a run of it comes to the mark first, and has changed no word there; the jump back behind the mark reads
+/// no word.
+pub fn runs_to_mark()
+    ensures { RunsToMark }
 {}
 
 /// An epilogue as written gives the caller's registers, frees the frame and returns.
