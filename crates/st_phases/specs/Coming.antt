@@ -6,6 +6,7 @@ use Rattle.st_base.specs.declared.chain.Waiting.TheVariants as waits
 use Rattle.st_base.specs.declared.reg.Reg.TheVariants as registers
 use Rattle.st_step.specs.declared.state.State.{State}
 use Rattle.st_step.specs.Moves.{written, at_place}
+use Rattle.st_step.specs.Runs.{AreValues}
 use Rattle.st_chain.specs.Logical.{restarted}
 use Rattle.st_phases.specs.declared.automaton.Automaton.{Automaton}
 use Rattle.st_phases.specs.declared.phase.Phase.TheVariants as phases
@@ -35,9 +36,9 @@ resumed chain x = record x { machine = restarted chain x.machine; threads = reco
 abbrev pub arrived : Chain → Option ℕ → ℕ → Automaton → Automaton
 arrived chain value main_at x = with_value value (started chain.wait main_at (resumed chain x))
 
--- it runs
+-- it runs; registers of 64 bits stay so
 abbrev pub Arrives : Chain → ℕ → Automaton → Turn → Automaton → Type 0
-Arrives chain main_at x turn y = (turn ≡ Ran points.Took) × RunsOn (arrived chain None main_at x) y
+Arrives chain main_at x turn y = (turn ≡ Ran points.Took) × RunsOn (arrived chain None main_at x) y × (AreValues x.machine → AreValues y.machine)
 
 abbrev pub Waits : Chain → Automaton → Turn → Automaton → Type 0
 Waits chain x turn y = (turn ≡ Ran points.Step) × (y ≡ with_phase (phases.Seeing chain) x)

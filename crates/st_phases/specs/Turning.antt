@@ -15,6 +15,7 @@ use Rattle.st_words.specs.declared.view.Slot.{Slot}
 use Rattle.st_words.specs.declared.view.Slot.TheVariants as slots
 use Rattle.st_words.specs.Encodings.{full_word, head_in, running, ready, ended, trap_word, asking, answering_word, nothing}
 use Rattle.st_words.specs.Steps.{Step, Look, CellLoad, CellStore, CellChange, ActiveAdd, ActiveLoad, StopLoad, StopSet, RequestLoad, RequestChange, MailLoad, MailStore, SlotTake, SlotPut, Answer, Done, Number, Took, return_place}
+use Rattle.st_step.specs.Runs.{AreValues}
 use Rattle.st_cells.specs.Cells.{owner_word, counted_up}
 use Rattle.st_stack.specs.Exported.{IsFrameOn, IsLowest, IsLimit}
 use Rattle.st_stack.specs.Shrinking.{IsStackOf}
@@ -158,7 +159,7 @@ module _ {Board : Type 0} (made : Step → Answer → Board → Type 0) (shrinks
   PhaseDoes (phases.Naming cell) = Made (CellStore cell words.Owner (owner_word (owner_of x))) (named cell x)
   PhaseDoes (phases.Beginning cell) = made (CellStore cell words.Standing running) Done new × (y ≡ begins_child cell x) × (turn ≡ Ran points.Forked)
   PhaseDoes (phases.Looking cell) = Found (CellLoad cell words.State) (λ found. looked cell found x)
-  PhaseDoes (phases.Valuing cell) = Found (CellLoad cell words.Value) (λ found. got found x)
+  PhaseDoes (phases.Valuing cell) = (found : ℕ) × (found < 2 ^ 64) × made (CellLoad cell words.Value) (Number found) new × Leaves (got found x)
   PhaseDoes (phases.Adding cell seen) = Found (CellChange cell seen (counted_up seen)) (λ found. added cell seen found x)
   PhaseDoes phases.Finding = Found (CellLoad own_note.cell words.State) (λ found. with_phase (phases.Filling found) x)
   PhaseDoes (phases.Filling seen) = (found : ℕ) × made (CellChange own_note.cell seen full_word) (Number found) new × (y ≡ filled image.forks seen found x) × (turn ≡ ended_or_step seen found)
@@ -189,7 +190,7 @@ module _ {Board : Type 0} (made : Step → Answer → Board → Type 0) (shrinks
   PhaseDoes phases.Clearing = (found : ℕ) × made (RequestChange x.number answering_word 0) (Number found) new × GoesOnAnswered x.threads.notes x y × (turn ≡ Ran points.Step)
   PhaseDoes (phases.Coming chain) = made (CellStore chain.cell words.Standing running) Done new × TakesOn chain.wait chain image.main_at x turn y
   PhaseDoes (phases.Seeing chain) = (found : ℕ) × made (CellLoad (cell_of chain.wait) words.State) (Number found) new × Sees chain.wait chain image.main_at x turn y
-  PhaseDoes (phases.Getting chain) = (found : ℕ) × made (CellLoad (cell_of chain.wait) words.Value) (Number found) new × RunsOn (arrived chain (Some found) image.main_at x) y × (turn ≡ Ran points.Took)
+  PhaseDoes (phases.Getting chain) = (found : ℕ) × made (CellLoad (cell_of chain.wait) words.Value) (Number found) new × RunsOn (arrived chain (Some found) image.main_at x) y × (AreValues x.machine → AreValues y.machine) × (turn ≡ Ran points.Took)
   PhaseDoes phases.Settled = (limit : ℕ) × IsLimit x.stack.hi x.stack.exported limit × RoundBegins shrinks made (limit == x.machine.hi) x turn y new
   PhaseDoes phases.Stop = ReadsStop made x turn y new
   PhaseDoes phases.Active = (found : ℕ) × made ActiveLoad (Number found) new × (y ≡ active_read found x) × (turn ≡ active_turn found)

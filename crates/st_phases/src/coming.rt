@@ -2,11 +2,12 @@
 ghost use Rattle.std.specs.Prelude.{◌≡◌, ℕ, Some, []};
 ghost use Rattle.st_words.specs.declared.view.CellWord.TheVariants as words;
 ghost use Rattle.st_words.specs.Encodings.{running};
+ghost use Rattle.st_step.specs.Runs.{AreValues};
 ghost use Rattle.st_words.specs.Made.{Asked, StepMade};
 ghost use Rattle.st_words.specs.Steps.{CellLoad, CellStore, Done, Number};
 ghost use Rattle.st_phases.specs.Waking.{cell_of};
 ghost use Rattle.st_phases.specs.Polling.{RunsOn};
-ghost use Rattle.st_phases.specs.Coming.{started, arrived, TakesOn, Sees};
+ghost use Rattle.st_phases.specs.Coming.{started, with_value, arrived, TakesOn, Sees};
 ghost use Rattle.st_phases.specs.declared.turn.Point.TheVariants as points;
 ghost use Rattle.st_phases.specs.declared.turn.Turn.TheVariants.{Ran};
 
@@ -33,7 +34,8 @@ fn cell_of(wait: Waiting) -> u32
 impl Automaton {
     /// The root's machine, where the chain is its first: `main` begins, with the length of the input.
     fn start(&mut self, wait: Waiting, main_at: u32)
-        ensures { self.new ≡ started wait main_at self.old }
+        ensures goes { self.new ≡ started wait main_at self.old }
+        ensures values { AreValues self.old.machine → AreValues self.new.machine }
     {
         if let Waiting::Start = wait {
             self.machine.set_reg(Reg::Ra, u64::from(END));
@@ -43,17 +45,26 @@ impl Automaton {
         }
     }
 
+    /// The value of a future comes into a0.
+    fn put_value(&mut self, value: Option<u64>)
+        ensures goes { self.new ≡ with_value value self.old }
+        ensures values { AreValues self.old.machine → AreValues self.new.machine }
+    {
+        if let Some(value) = value {
+            self.machine.set_reg(Reg::A0, value);
+        }
+    }
+
     /// The thread of a chain goes on as the only one, with the value of the future that it has touched.
     fn arrive(&mut self, chain: Chain, value: Option<u64>, main_at: u32) -> Turn
         requires { self.old.threads.notes ≡ [] }
         ensures goes { RunsOn (arrived chain value main_at self.old) self.new }
+        ensures values { AreValues self.old.machine → AreValues self.new.machine }
         ensures turn { result ≡ Ran points.Took }
     {
         self.threads.restart(&mut self.machine, chain);
         self.start(chain.wait, main_at);
-        if let Some(value) = value {
-            self.machine.set_reg(Reg::A0, value);
-        }
+        self.put_value(value);
         self.run_on();
         Turn::Ran(Point::Took)
     }
@@ -117,7 +128,7 @@ impl Automaton {
     ) -> Turn
         requires none { self.old.threads.notes ≡ [] }
         requires may { Asked B.view B.serves B.says B.forward B.moves N.after board.old self.old.number (CellLoad (cell_of chain.wait) words.Value) }
-        ensures made { (found : ℕ) × StepMade B.view B.serves B.says B.did N.after board.old self.old.number (CellLoad (cell_of chain.wait) words.Value) (Number found) board.new × RunsOn (arrived chain (Some found) main_at self.old) self.new }
+        ensures made { (found : ℕ) × StepMade B.view B.serves B.says B.did N.after board.old self.old.number (CellLoad (cell_of chain.wait) words.Value) (Number found) board.new × RunsOn (arrived chain (Some found) main_at self.old) self.new × (AreValues self.old.machine → AreValues self.new.machine) }
         ensures turn { result ≡ Ran points.Took }
     {
         let value = board.cell_load::<N>(self.number, cell_of(chain.wait), CellWord::Value);

@@ -219,7 +219,7 @@ impl Automaton {
     /// The value of the future comes into a0.
     pub(crate) fn get_value<B: Board, N: NamesView>(&mut self, cell: u32, board: &mut B) -> Turn
         requires may { Asked B.view B.serves B.says B.forward B.moves N.after board.old self.old.number (CellLoad cell words.Value) }
-        ensures made { (found : ℕ) × StepMade B.view B.serves B.says B.did N.after board.old self.old.number (CellLoad cell words.Value) (Number found) board.new × (self.new ≡ got found self.old) }
+        ensures made { (found : ℕ) × StepMade B.view B.serves B.says B.did N.after board.old self.old.number (CellLoad cell words.Value) (Number found) board.new × (self.new ≡ got found self.old) × (found < 2 ^ 64) }
         ensures turn { result ≡ Ran points.Step }
     {
         let value = cells::value::<B, N>(board, self.number, cell);

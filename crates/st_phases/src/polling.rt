@@ -2,6 +2,7 @@
 ghost use Rattle.std.specs.Prelude.{◌≡◌, ℕ, Option};
 ghost use Rattle.st_base.specs.declared.chain.Frame.{Frame};
 ghost use Rattle.st_base.specs.declared.reg.Reg.TheVariants as registers;
+ghost use Rattle.st_step.specs.Runs.{AreValues};
 ghost use Rattle.st_words.specs.Made.{Asked, StepMade};
 ghost use Rattle.st_words.specs.Steps.{RequestLoad, StopLoad, Look, Number, return_place};
 ghost use Rattle.st_step.specs.Moves.{register};
@@ -72,7 +73,8 @@ impl Automaton {
 
     /// The thread goes on, by a stack whose limit is known.
     pub(crate) fn run_on(&mut self)
-        ensures { RunsOn self.old self.new }
+        ensures runs { RunsOn self.old self.new }
+        ensures values { AreValues self.old.machine → AreValues self.new.machine }
     {
         self.machine.set_reg(Reg::Gp, self.stack.limit());
         self.phase = Phase::Running;
