@@ -10,20 +10,17 @@ use Rattle.st_chain.specs.Forks.{handle_behind}
 use Rattle.st_phases.specs.declared.automaton.Automaton.{Automaton}
 use Rattle.st_phases.specs.declared.phase.Phase.{Phase}
 use Rattle.st_phases.specs.declared.phase.Phase.TheVariants as phases
-use Rattle.st_phases.specs.Automaton.{with_phase}
+use Rattle.st_phases.specs.Automaton.{with_phase, with_ready}
 use Rattle.st_phases.specs.Polling.{RunsOn}
 
--- behind an answer a worker without a thread goes on with the next place of its round
+-- after an answer a worker without a thread goes on with the next place of its round
 abbrev pub GoesOnAnswered : List Note → Automaton → Automaton → Type 0
 GoesOnAnswered [] x y = y ≡ with_phase phases.Mail x
 GoesOnAnswered (note ∷ notes) x y = RunsOn x y
 
--- the second thread from the bottom has a frame; a child that was just forked has none
+-- there are two threads and the second one from the bottom has a frame; a child that was just forked has none
 abbrev pub has_two : List ForkRow → Automaton → Bool
 has_two forks x = nat_lt 2 (length x.threads.notes) || ((length x.threads.notes == 2) && not (is_some (handle_behind forks (x.machine.pc + 4))))
-
-abbrev pub with_ready : List ℕ → Automaton → Automaton
-with_ready numbers x = record x { ready = record x.ready { numbers = numbers } }
 
 -- a ready number is given, or the bottom thread, or the request is refused
 abbrev pub chosen : ℕ → Option ℕ → List ForkRow → Automaton → Automaton

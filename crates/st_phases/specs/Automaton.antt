@@ -10,18 +10,18 @@ use Rattle.st_phases.specs.declared.phase.Rest.{Rest}
 use Rattle.st_phases.specs.declared.phase.Phase.{Phase}
 use Rattle.st_phases.specs.declared.phase.Phase.TheVariants as phases
 
--- behind the word that called an entry of the runtime
+-- the place behind the jump that called an entry of the runtime
 abbrev pub back : State → ℕ
 back m = register m registers.Ra % 2 ^ 32
 
 abbrev pub with_phase : Phase → Automaton → Automaton
 with_phase phase x = record x { phase = phase }
 
--- the machine goes on there, behind a poll
+-- the machine goes on there, after a poll
 abbrev pub goes_back : Automaton → Automaton
 goes_back x = record x { machine = at_place (back x.machine) x.machine; phase = phases.Polling }
 
--- where a call of the runtime is done a worker with a thread polls, and one without begins a round
+-- where the thread that called an entry may have left, a worker with a thread polls, and one without begins a round
 abbrev pub round_or_poll : List Note → Phase
 round_or_poll [] = phases.Settled
 round_or_poll (note ∷ notes) = phases.Polling
@@ -38,9 +38,12 @@ no_note = record { cell = 0; forks = 0; counters = 0; bytes = 0 }
 abbrev pub top : List Note → Note
 top notes = slice_index_or notes (length notes - 1) no_note
 
--- it has another note
+-- the last one becomes another note
 abbrev pub replaced : Note → List Note → List Note
 replaced note notes = take (length notes - 1) notes ++ note ∷ []
+
+abbrev pub own_note : Automaton → Note
+own_note x = top x.threads.notes
 
 abbrev pub with_notes : List Note → Automaton → Automaton
 with_notes notes x = record x { threads = record x.threads { notes = notes } }
@@ -51,6 +54,11 @@ with_top note x = with_notes (replaced note x.threads.notes) x
 -- the top thread goes out
 abbrev pub popped : Automaton → Automaton
 popped x = with_notes (take (length x.threads.notes - 1) x.threads.notes) x
+
+-- ---- ready numbers
+
+abbrev pub with_ready : List ℕ → Automaton → Automaton
+with_ready numbers x = record x { ready = record x.ready { numbers = numbers } }
 
 -- ---- what comes next
 

@@ -17,7 +17,7 @@ use Rattle.st_phases.specs.declared.phase.Phase.TheVariants as phases
 use Rattle.st_phases.specs.declared.turn.Point.TheVariants as points
 use Rattle.st_phases.specs.declared.turn.Turn.{Turn}
 use Rattle.st_phases.specs.declared.turn.Turn.TheVariants.{Ran}
-use Rattle.st_phases.specs.Automaton.{top, with_phase, goes_back}
+use Rattle.st_phases.specs.Automaton.{own_note, with_phase, goes_back}
 use Rattle.st_phases.specs.Entries.{drawn, handle_in, kind_seen}
 use Rattle.st_phases.specs.Running.{MayRun, Runs, MayPrint, Prints}
 
@@ -28,7 +28,7 @@ pub record HasTop (x : Automaton) : Type 0 where
 
 -- the value of the top thread is stored
 abbrev pub value_step : Automaton → Step
-value_step x = CellStore (top x.threads.notes).cell words.Value (register x.machine registers.A0)
+value_step x = CellStore (own_note x).cell words.Value (register x.machine registers.A0)
 
 -- the Owner word of the cell in a6 is loaded
 abbrev pub owner_step : Automaton → Step
@@ -38,7 +38,7 @@ owner_step x = CellLoad (handle_in x.machine) words.Owner
 
 pub record MayPrintNow (asks : Step → Type 0) (x : Automaton) : Type 0 where
   pub has : HasTop x
-  pub few : (top x.threads.notes).bytes ≤ 1048576
+  pub few : (own_note x).bytes ≤ 1048576
   pub may : MayPrint asks x
 
 pub record MayEnd (asks : Step → Type 0) (x : Automaton) : Type 0 where

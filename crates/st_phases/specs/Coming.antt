@@ -36,20 +36,21 @@ resumed chain x = record x { machine = restarted chain x.machine; threads = reco
 abbrev pub arrived : Chain → Option ℕ → ℕ → Automaton → Automaton
 arrived chain value main_at x = with_value value (started chain.wait main_at (resumed chain x))
 
--- it runs; registers of 64 bits stay so
+-- the thread of the chain runs, without a value
 abbrev pub Arrives : Chain → ℕ → Automaton → Turn → Automaton → Type 0
 Arrives chain main_at x turn y = (turn ≡ Ran points.Took) × RunsOn (arrived chain None main_at x) y × (AreValues x.machine → AreValues y.machine)
 
+-- the State of the cell at which it waited is loaded next
 abbrev pub Waits : Chain → Automaton → Turn → Automaton → Type 0
 Waits chain x turn y = (turn ≡ Ran points.Step) × (y ≡ with_phase (phases.Seeing chain) x)
 
--- or what it waited for is seen first
+-- a chain that waited at a cell has that looked at first; any other runs
 abbrev pub TakesOn : Waiting → Chain → ℕ → Automaton → Turn → Automaton → Type 0
 TakesOn (waits.Touch cell) chain main_at x turn y = Waits chain x turn y
 TakesOn (waits.Join cell least) chain main_at x turn y = Waits chain x turn y
 TakesOn _ chain main_at x turn y = Arrives chain main_at x turn y
 
--- of a future the value is loaded next
+-- the State was loaded: of a future the value is loaded next, and behind a counter the thread runs
 abbrev pub Sees : Waiting → Chain → ℕ → Automaton → Turn → Automaton → Type 0
 Sees (waits.Touch cell) chain main_at x turn y = (turn ≡ Ran points.Step) × (y ≡ with_phase (phases.Getting chain) x)
 Sees _ chain main_at x turn y = Arrives chain main_at x turn y

@@ -11,9 +11,10 @@ use Rattle.st_phases.specs.declared.phase.Phase.TheVariants as phases
 use Rattle.st_phases.specs.declared.turn.Point.TheVariants as points
 use Rattle.st_phases.specs.declared.turn.Turn.{Turn}
 use Rattle.st_phases.specs.declared.turn.Turn.TheVariants.{Ran}
-use Rattle.st_phases.specs.Automaton.{back, with_phase, top, popped}
+use Rattle.st_phases.specs.Automaton.{back, with_phase, own_note, popped}
 use Rattle.st_phases.specs.Entries.{with_register}
 
+-- the cell comes into the register of a fork's handle, where the fork has one
 abbrev pub in_handle : Option Reg → ℕ → Automaton → Automaton
 in_handle None cell x = x
 in_handle (Some handle) cell x = with_register handle cell x
@@ -27,7 +28,7 @@ below_goes_on forks cell x = if x.machine.pc == 0x20 then moved_to (back x.machi
 
 abbrev pub filled : List ForkRow → ℕ → ℕ → Automaton → Automaton
 filled forks seen found x =
-    if found == seen then with_phase (phases.Ending (top x.threads.notes).cell seen) (below_goes_on forks (top x.threads.notes).cell (popped x)) else with_phase (phases.Filling found) x
+    if found == seen then with_phase (phases.Ending (own_note x).cell seen) (below_goes_on forks (own_note x).cell (popped x)) else with_phase (phases.Filling found) x
 
 abbrev pub ended_or_step : ℕ → ℕ → Turn
 ended_or_step seen found = if found == seen then Ran points.Ended else Ran points.Step

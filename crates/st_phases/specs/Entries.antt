@@ -14,7 +14,7 @@ use Rattle.st_step.specs.declared.state.State.{State}
 use Rattle.st_step.specs.Moves.{register, written}
 use Rattle.st_phases.specs.declared.automaton.Automaton.{Automaton}
 use Rattle.st_phases.specs.declared.phase.Phase.TheVariants as phases
-use Rattle.st_phases.specs.Automaton.{with_phase, goes_back, top, replaced, with_top, with_notes, leaves, wakes}
+use Rattle.st_phases.specs.Automaton.{with_phase, goes_back, own_note, replaced, with_top, with_notes, leaves, wakes}
 
 -- with a number in a register of its machine
 abbrev pub with_register : Reg → ℕ → Automaton → Automaton
@@ -31,21 +31,21 @@ counts x = x.machine.pc == 0x50
 
 -- the name that the cell gets, by the top thread's cell and how many counters or children it has made
 abbrev pub owner_of : Automaton → Owner
-owner_of x = record { counter = counts x; parent = (top x.threads.notes).cell; number = if counts x then (top x.threads.notes).counters else (top x.threads.notes).forks }
+owner_of x = record { counter = counts x; parent = (own_note x).cell; number = if counts x then (own_note x).counters else (own_note x).forks }
 
 -- the counter is made: its number comes into a6
 abbrev pub counter_made : ℕ → Note → Automaton → Automaton
 counter_made cell note x = goes_back (with_register registers.A6 cell (with_top (record note { counters = note.counters + 1 }) x))
 
 abbrev pub named : ℕ → Automaton → Automaton
-named cell x = if counts x then counter_made cell (top x.threads.notes) x else with_phase (phases.Beginning cell) x
+named cell x = if counts x then counter_made cell (own_note x) x else with_phase (phases.Beginning cell) x
 
 abbrev pub child_note : ℕ → Note
 child_note cell = record { cell = cell; forks = 0; counters = 0; bytes = 0 }
 
 -- the child comes on top of its parent
 abbrev pub begins_child : ℕ → Automaton → Automaton
-begins_child cell x = goes_back (with_notes (replaced (record (top x.threads.notes) { forks = (top x.threads.notes).forks + 1 }) x.threads.notes ++ child_note cell ∷ []) x)
+begins_child cell x = goes_back (with_notes (replaced (record (own_note x) { forks = (own_note x).forks + 1 }) x.threads.notes ++ child_note cell ∷ []) x)
 
 -- ---- cells that are named in a6
 

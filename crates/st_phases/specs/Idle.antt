@@ -17,9 +17,8 @@ use Rattle.st_phases.specs.declared.phase.Phase.TheVariants as phases
 use Rattle.st_phases.specs.declared.turn.Point.TheVariants as points
 use Rattle.st_phases.specs.declared.turn.Turn.{Turn}
 use Rattle.st_phases.specs.declared.turn.Turn.TheVariants.{Ran, Idle, Over}
-use Rattle.st_phases.specs.Automaton.{with_phase}
+use Rattle.st_phases.specs.Automaton.{with_phase, with_ready}
 use Rattle.st_phases.specs.Waking.{NeverEmpty}
-use Rattle.st_phases.specs.Answering.{with_ready}
 use Rattle.st_phases.specs.Polling.{heeded, with_sp}
 use Rattle.st_phases.specs.Coming.{TakesOn}
 
@@ -36,7 +35,7 @@ abbrev pub IsShrunkIdle : Shrunk → Automaton → Automaton → Type 0
 IsShrunkIdle shrunks.More x y = (y ≡ record x { stack = y.stack }) × (y.stack.lo ≡ x.stack.lo) × (y.stack.hi ≡ x.stack.hi)
 IsShrunkIdle (shrunks.Done sp) x y = (y ≡ with_phase phases.Stop (with_sp sp (record x { stack = y.stack }))) × (y.stack.lo ≡ x.stack.lo) × (y.stack.hi ≡ x.stack.hi)
 
--- the least frame is looked at; of none the turn is the first place's
+-- the exported frame of least low end is looked at; where there is none (true), the stop word is read in this turn
 abbrev pub RoundBegins : {Board : Type 0} → (List Frame → List Frame → Option Frame → Shrunk → Board → Type 0) → (Step → Answer → Board → Type 0) → Bool → Automaton → Turn → Automaton → Board → Type 0
 RoundBegins shrinks made false x turn y new = (shrunk : Shrunk) × shrinks x.stack.exported y.stack.exported None shrunk new × IsShrunkIdle shrunk x y × (turn ≡ Ran points.Step)
 RoundBegins shrinks made true x turn y new = ReadsStop made (with_sp x.machine.hi x) turn y new
@@ -77,7 +76,7 @@ TakesOwn made (cell ∷ cells) x turn y new =
 
 -- ---- mail
 
--- the answer to its request has come
+-- no request of its own stands any more, since it was answered
 abbrev pub no_request : Phase → Automaton → Automaton
 no_request phase x = record x { asked = None; begun = false; phase = phase }
 
@@ -105,7 +104,7 @@ withdrawn found x = if found == asking x.number then record x { asked = None; ph
 abbrev pub withdraw_turn : ℕ → Automaton → Turn
 withdraw_turn found x = if found == asking x.number then Ran points.Step else Idle found
 
--- a request that stands is withdrawn, or the own mail word becomes waiting
+-- a request that stands is withdrawn; where none stands, the own mail word becomes waiting
 abbrev pub MaySeventh : (Step → Type 0) → Automaton → Option ℕ → Type 0
 MaySeventh asks x (Some v) = asks (RequestChange v (asking x.number) 0)
 MaySeventh asks x None = asks (MailStore x.number waiting)

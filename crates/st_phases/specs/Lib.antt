@@ -1,13 +1,13 @@
 pub mod Automaton
+pub mod Opening
+pub mod Running
 pub mod Entries
 pub mod Ending
+pub mod Calls
 pub mod Waking
 pub mod Leaving
 pub mod Polling
 pub mod Answering
 pub mod Coming
 pub mod Idle
-pub mod Running
-pub mod Calls
 pub mod Turning
-pub mod Opening

@@ -19,7 +19,7 @@ use Rattle.st_phases.specs.declared.automaton.Automaton.{Automaton}
 use Rattle.st_phases.specs.declared.phase.Phase.TheVariants as phases
 use Rattle.st_phases.specs.declared.turn.Turn.{Turn}
 use Rattle.st_phases.specs.declared.turn.Turn.TheVariants as turns
-use Rattle.st_phases.specs.Automaton.{with_phase, goes_back, top, with_top, leaves}
+use Rattle.st_phases.specs.Automaton.{with_phase, goes_back, own_note, with_top, leaves}
 use Rattle.st_phases.specs.Entries.{stops_at_call}
 
 -- ---- an instruction
@@ -41,7 +41,7 @@ begins_with row x = row.begins && not (is_some x.machine.half)
 abbrev pub counted : Bool → Automaton → Automaton
 counted begins x = record x { items = if begins then x.items + 1 else x.items }
 
--- what it has come to, where sp was there before it: the bytes of a frame that it has made are counted
+-- what comes after it, where sp was `before` ahead of it: the bytes of a frame that it has made are counted
 abbrev pub went : Bool → ℕ → StepEnd → Automaton → Automaton
 went begins before (ends.Trap kind) x = leaves (record { wait = waits.Trapped; kind = trap_number kind; seen = 0; at_call = false }) x
 went begins before (ends.StackFull frame) x = with_phase (phases.Stopping (limits.Stack x.number frame)) x
@@ -70,20 +70,20 @@ module _ {Board : Type 0} (made : Step → Answer → Board → Type 0) (old : B
 -- ---- a byte
 
 abbrev pub is_root : Automaton → Bool
-is_root x = (top x.threads.notes).cell == 0
+is_root x = (own_note x).cell == 0
 
 abbrev pub is_full : Automaton → Bool
-is_full x = (top x.threads.notes).bytes == 1048576
+is_full x = (own_note x).bytes == 1048576
 
 -- the byte is the low one of a0
 abbrev pub out_step : Automaton → Step
-out_step x = OutStore (top x.threads.notes).bytes (printed (top x.threads.notes).forks (register x.machine registers.A0 % 256))
+out_step x = OutStore (own_note x).bytes (printed (own_note x).forks (register x.machine registers.A0 % 256))
 
 abbrev pub MayPrint : (Step → Type 0) → Automaton → Type 0
 MayPrint asks x = is_root x ≡ true → is_full x ≡ false → asks (out_step x)
 
 abbrev pub has_printed : Automaton → Automaton
-has_printed x = goes_back (with_top (record (top x.threads.notes) { bytes = (top x.threads.notes).bytes + 1 }) x)
+has_printed x = goes_back (with_top (record (own_note x) { bytes = (own_note x).bytes + 1 }) x)
 
 -- a child may not print, and the root as many bytes as there is room for
 abbrev pub prints : {Board : Type 0} → (Step → Answer → Board → Type 0) → Board → Bool → Bool → Automaton → Automaton → Board → Type 0

@@ -4,7 +4,6 @@ use Rattle.std.specs.Prelude.{◌≡◌, ◌≢◌, ℕ, suc, ◌+◌, ◌-◌, 
 use Rattle.st_base.specs.Entry.{entry_at}
 use Rattle.st_base.specs.declared.chain.Chain.{Chain}
 use Rattle.st_base.specs.declared.chain.Frame.{Frame}
-use Rattle.st_base.specs.declared.chain.Note.{Note}
 use Rattle.st_base.specs.declared.image.Image.{Image}
 use Rattle.st_model.specs.declared.code.Layout.TheVariants.{Postprocessed}
 use Rattle.st_model.specs.Layout.{IsCodeOf}
@@ -33,7 +32,7 @@ use Rattle.st_phases.specs.declared.phase.Phase.TheVariants as phases
 use Rattle.st_phases.specs.declared.turn.Point.TheVariants as points
 use Rattle.st_phases.specs.declared.turn.Turn.{Turn}
 use Rattle.st_phases.specs.declared.turn.Turn.TheVariants.{Ran}
-use Rattle.st_phases.specs.Automaton.{top, with_phase, wakes}
+use Rattle.st_phases.specs.Automaton.{own_note, with_phase, wakes}
 use Rattle.st_phases.specs.Entries.{owner_of, named, begins_child, looked, got, added}
 use Rattle.st_phases.specs.Ending.{filled, ended_or_step, rest_of}
 use Rattle.st_phases.specs.Waking.{NeverEmpty, followed, raised, returned, readied, cell_of, MayPark, parked_word, parked, behind}
@@ -60,19 +59,16 @@ module _ (asks : Step → Type 0) (says : Step → Answer → Type 0) (cargo : S
   abbrev pub MayPut : Slot → Chain → Type 0
   MayPut slot chain = asks (SlotPut slot chain (cargo slot chain))
 
-  abbrev pub note : Note
-  note = top x.threads.notes
-
   abbrev pub MayPhase : Phase → Type 0
   MayPhase phases.Running = MayGoOn asks (data_of image.rodata input) x (entry_at x.machine.pc)
   MayPhase (phases.Stopping kind) = asks (StopSet (stop_code x.number kind))
-  MayPhase (phases.Naming cell) = HasTop x × (note.counters + 1 < 2 ^ 32) × asks (CellStore cell words.Owner (owner_word (owner_of x)))
-  MayPhase (phases.Beginning cell) = (x.threads.notes ≢ []) × (length x.threads.notes < x.threads.room) × (note.forks + 1 < 2 ^ 32) × asks (CellStore cell words.Standing running)
+  MayPhase (phases.Naming cell) = HasTop x × ((own_note x).counters + 1 < 2 ^ 32) × asks (CellStore cell words.Owner (owner_word (owner_of x)))
+  MayPhase (phases.Beginning cell) = (x.threads.notes ≢ []) × (length x.threads.notes < x.threads.room) × ((own_note x).forks + 1 < 2 ^ 32) × asks (CellStore cell words.Standing running)
   MayPhase (phases.Looking cell) = asks (CellLoad cell words.State)
   MayPhase (phases.Valuing cell) = asks (CellLoad cell words.Value)
   MayPhase (phases.Adding cell seen) = asks (CellChange cell seen (counted_up seen))
-  MayPhase phases.Finding = (x.threads.notes ≢ []) × asks (CellLoad note.cell words.State)
-  MayPhase (phases.Filling seen) = (x.threads.notes ≢ []) × AreRising 0 image.forks × asks (CellChange note.cell seen full_word)
+  MayPhase phases.Finding = (x.threads.notes ≢ []) × asks (CellLoad (own_note x).cell words.State)
+  MayPhase (phases.Filling seen) = (x.threads.notes ≢ []) × AreRising 0 image.forks × asks (CellChange (own_note x).cell seen full_word)
   MayPhase (phases.Ending cell head) = asks (CellStore cell words.Standing ended)
   MayPhase (phases.Following rest) = (rest.next ≢ 0) × (rest.next ≤ 2 ^ 32) × asks (CellLoad (rest.next - 1) words.Next)
   MayPhase (phases.Raising waiter rest) = asks (ActiveAdd true)
@@ -120,23 +116,20 @@ module _ {Board : Type 0} (made : Step → Answer → Board → Type 0) (shrinks
   abbrev pub Leaves : Automaton → Type 0
   Leaves z = (y ≡ z) × (turn ≡ Ran points.Step)
 
-  -- the step was made, whose answer tells nothing
+  -- the step was made, whose answer tells nothing, and the worker is left so
   abbrev pub Made : Step → Automaton → Type 0
   Made s z = made s Done new × Leaves z
 
-  -- or a number, by which the worker is left so
+  -- the step was made, which found a number, and by that the worker is left so
   abbrev pub Found : Step → (ℕ → Automaton) → Type 0
   Found s after = (found : ℕ) × made s (Number found) new × Leaves (after found)
 
-  -- a chain was taken
+  -- a chain was taken out of the slot, and by that the worker is left so
   abbrev pub Takes : Slot → (Chain → Automaton) → Type 0
   Takes slot after = (cargo_of : Cargo) × (chain : Chain) × made (SlotTake slot) (Took (Some chain) cargo_of) new × Leaves (after chain)
 
   abbrev pub Puts : Slot → Chain → Automaton → Type 0
   Puts slot chain z = Made (SlotPut slot chain (cargo slot chain)) z
-
-  abbrev pub own_note : Note
-  own_note = top x.threads.notes
 
   abbrev pub Suspended : Leaving → Type 0
   Suspended leaving =
@@ -161,8 +154,8 @@ module _ {Board : Type 0} (made : Step → Answer → Board → Type 0) (shrinks
   PhaseDoes (phases.Looking cell) = Found (CellLoad cell words.State) (λ found. looked cell found x)
   PhaseDoes (phases.Valuing cell) = (found : ℕ) × (found < 2 ^ 64) × made (CellLoad cell words.Value) (Number found) new × Leaves (got found x)
   PhaseDoes (phases.Adding cell seen) = Found (CellChange cell seen (counted_up seen)) (λ found. added cell seen found x)
-  PhaseDoes phases.Finding = Found (CellLoad own_note.cell words.State) (λ found. with_phase (phases.Filling found) x)
-  PhaseDoes (phases.Filling seen) = (found : ℕ) × made (CellChange own_note.cell seen full_word) (Number found) new × (y ≡ filled image.forks seen found x) × (turn ≡ ended_or_step seen found)
+  PhaseDoes phases.Finding = Found (CellLoad (own_note x).cell words.State) (λ found. with_phase (phases.Filling found) x)
+  PhaseDoes (phases.Filling seen) = (found : ℕ) × made (CellChange (own_note x).cell seen full_word) (Number found) new × (y ≡ filled image.forks seen found x) × (turn ≡ ended_or_step seen found)
   PhaseDoes (phases.Ending cell head) = Made (CellStore cell words.Standing ended) (wakes (rest_of cell head) x)
   PhaseDoes (phases.Following rest) = Found (CellLoad (rest.next - 1) words.Next) (λ found. followed rest found x)
   PhaseDoes (phases.Raising waiter rest) = Found (ActiveAdd true) (λ found. raised waiter rest x)

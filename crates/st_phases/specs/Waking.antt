@@ -10,7 +10,7 @@ use Rattle.st_phases.specs.declared.automaton.Automaton.{Automaton}
 use Rattle.st_phases.specs.declared.phase.Rest.{Rest}
 use Rattle.st_phases.specs.declared.phase.Settling.{Settling}
 use Rattle.st_phases.specs.declared.phase.Phase.TheVariants as phases
-use Rattle.st_phases.specs.Automaton.{with_phase, wakes, went_on}
+use Rattle.st_phases.specs.Automaton.{with_phase, with_ready, wakes, went_on}
 
 -- whether the wait is over, as a State word shows it
 abbrev pub is_over : Waiting → ℕ → Bool
@@ -18,7 +18,7 @@ is_over (waits.Touch cell) seen = seen == full_word
 is_over (waits.Join cell least) seen = nat_le least (count_in seen)
 is_over _ seen = true
 
--- the slot isn't found empty
+-- the slot that is taken isn't found empty
 abbrev pub NeverEmpty : (Answer → Type 0) → Type 0
 NeverEmpty says = (cargo : Cargo) → says (Took None cargo) → ⊥
 
@@ -44,7 +44,7 @@ behind None x = went_on x
 behind (Some rest) x = wakes rest x
 
 abbrev pub readied : Settling → Automaton → Automaton
-readied settling x = behind settling.rest (record x { ready = record x.ready { numbers = x.ready.numbers ++ settling.waiter ∷ [] } })
+readied settling x = behind settling.rest (with_ready (x.ready.numbers ++ settling.waiter ∷ []) x)
 
 -- ---- parking
 

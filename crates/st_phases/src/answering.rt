@@ -1,10 +1,9 @@
 //! A request is answered: by a ready thread, by the bottom one of two, or by a refusal.
-ghost use Rattle.std.specs.Prelude.{◌≡◌, ◌+◌, ◌^◌, ◌<◌, ℕ, Option, Some, suc, true};
+ghost use Rattle.std.specs.Prelude.{◌≡◌, ◌+◌, ◌^◌, ◌<◌, ℕ, Option, Some, suc, true, []};
 ghost use Rattle.st_base.specs.declared.chain.Chain.{Chain};
 ghost use Rattle.st_model.specs.declared.code.Layout.TheVariants.{Postprocessed};
 ghost use Rattle.st_model.specs.Layout.{IsCodeOf};
 ghost use Rattle.st_model.specs.Memory.{data_of};
-ghost use Rattle.std.specs.Prelude.{[]};
 ghost use Rattle.st_words.specs.declared.view.Cargo.{Cargo};
 ghost use Rattle.st_words.specs.declared.view.CellWord.TheVariants as words;
 ghost use Rattle.st_words.specs.declared.view.Slot.TheVariants as slots;
@@ -16,9 +15,9 @@ ghost use Rattle.st_steal.specs.Words.{told_word};
 ghost use Rattle.st_chain.specs.declared.logical.Moved.{Moved};
 ghost use Rattle.st_chain.specs.Forks.{AreRising};
 ghost use Rattle.st_chain.specs.Taking.{Taking, Gives, GiveStep, MayGive};
-ghost use Rattle.st_phases.specs.Automaton.{with_phase};
+ghost use Rattle.st_phases.specs.Automaton.{with_phase, with_ready};
 ghost use Rattle.st_phases.specs.Waking.{NeverEmpty};
-ghost use Rattle.st_phases.specs.Answering.{has_two, GoesOnAnswered, IsAnswered, chosen, with_ready, IsGiven};
+ghost use Rattle.st_phases.specs.Answering.{has_two, GoesOnAnswered, IsAnswered, chosen, IsGiven};
 ghost use Rattle.st_phases.specs.declared.phase.Phase.TheVariants as phases;
 ghost use Rattle.st_phases.specs.declared.turn.Point.TheVariants as points;
 ghost use Rattle.st_phases.specs.declared.turn.Turn.TheVariants.{Ran};
@@ -36,7 +35,7 @@ use st_words::board::{Board, NamesView};
 use st_words::view::{CellWord, Slot};
 
 impl Automaton {
-    /// Behind an answer the thread goes on, or the round goes on with the next place.
+    /// After an answer the thread goes on, or the round of a worker without one, at its next place.
     fn go_on_answered(&mut self)
         ensures { GoesOnAnswered self.old.threads.notes self.old self.new }
     {
@@ -47,7 +46,7 @@ impl Automaton {
         }
     }
 
-    /// Whether the second thread from the bottom has a frame. A child that was just forked has none.
+    /// Whether there are two threads and the second one from the bottom has a frame. A child that was just forked has none.
     fn has_two(&self, forks: &[ForkRow]) -> bool
         requires forks { AreRising 0 forks.now }
         requires place { self.now.machine.pc + 4 < 2 ^ 32 }
@@ -95,7 +94,7 @@ impl Automaton {
         RAN
     }
 
-    /// The chain of a ready number is fetched.
+    /// The chain of a ready thread is taken out of its slot.
     pub(crate) fn pick<B: Board, N: NamesView>(
         &mut self,
         asker: u32,
@@ -114,7 +113,7 @@ impl Automaton {
         RAN
     }
 
-    /// It stands as in mail.
+    /// The Standing of the ready thread becomes 1, as that of a thread in mail is.
     pub(crate) fn wave<B: Board, N: NamesView>(
         &mut self,
         asker: u32,
@@ -131,7 +130,7 @@ impl Automaton {
         RAN
     }
 
-    /// A unit is added for the bottom thread.
+    /// A unit is added for the bottom thread, which is given away.
     pub(crate) fn share<B: Board, N: NamesView>(&mut self, asker: u32, board: &mut B) -> Turn
         requires may { Asked B.view B.serves B.says B.forward B.moves N.after board.old self.old.number (ActiveAdd true) }
         ensures made { (found : ℕ) × StepMade B.view B.serves B.says B.did N.after board.old self.old.number (ActiveAdd true) (Number found) board.new }
@@ -143,7 +142,7 @@ impl Automaton {
         RAN
     }
 
-    /// A step of giving it.
+    /// A step of taking it off: its frames are walked, and at the end its chain is known.
     pub(crate) fn give<B: Board, N: NamesView>(
         &mut self,
         asker: u32,
@@ -180,7 +179,7 @@ impl Automaton {
         RAN
     }
 
-    /// The answer is told.
+    /// The answer is told, by the mail word of the worker that asks.
     pub(crate) fn tell<B: Board, N: NamesView>(
         &mut self,
         asker: u32,
@@ -197,7 +196,7 @@ impl Automaton {
         RAN
     }
 
-    /// The request ends.
+    /// The own request word becomes 0, and the worker goes on.
     pub(crate) fn clear<B: Board, N: NamesView>(&mut self, board: &mut B) -> Turn
         requires may { Asked B.view B.serves B.says B.forward B.moves N.after board.old self.old.number (RequestChange self.old.number answering_word 0) }
         ensures made { (found : ℕ) × StepMade B.view B.serves B.says B.did N.after board.old self.old.number (RequestChange self.old.number answering_word 0) (Number found) board.new × GoesOnAnswered self.old.threads.notes self.old self.new }

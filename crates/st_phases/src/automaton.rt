@@ -11,44 +11,54 @@ use st_stack::stack::PhysStack;
 use st_steal::ready::ReadyList;
 use st_step::Machine;
 
-/// A worker between two turns.
+/// A worker between two turns. The ranges are those of a worker that was opened. A turn changes neither the first five fields nor `code`.
 #[derive(Drop)]
 pub struct Automaton {
+    /// Its number, less than `workers`.
     pub number: u32,
+    /// How many workers there are: 1 to 16.
     pub workers: u32,
+    /// How many threads and counters there may be in all: 16 to 65,536.
     pub cells: u32,
+    /// How many items it may begin: 1 to 2^40.
     pub steps: u64,
     /// How many bytes the input has.
     pub length: u64,
+    /// The instructions of the image, each with whether an item begins with it.
     pub code: Code,
+    /// The registers and the pc of the top thread, where it has one.
     pub machine: Machine,
+    /// Its stack, with the frames on it that belong to threads which were taken off this worker.
     pub stack: PhysStack,
+    /// Its threads, the bottom one first, with room for `cells`.
     pub threads: Logical,
+    /// The cells of the ready threads that are this worker's to take up, the oldest first, with room for `cells`.
     pub ready: ReadyList,
+    /// What its next turn does.
     pub phase: Phase,
-    /// The items that it has begun.
+    /// How many items it has begun.
     pub items: u64,
-    /// The bytes of the frames that it has made.
+    /// The bytes of all frames that it has made, those included that are gone.
     pub frame_bytes: u64,
-    /// Turns since it has read the stop word.
+    /// How many turns it has made since it read the stop word: 0 to 4,095.
     pub since: u32,
     /// The worker at which its request stands.
     pub asked: Option<u32>,
     /// Whether it has found that the answer to its request has begun.
     pub begun: bool,
-    /// The worker that it has asked last.
+    /// The worker that it has asked last; at first its own number.
     pub last: u32,
 }
 
 impl Automaton {
-    /// Behind the jump that called the entry.
+    /// The place behind the jump that called an entry: the low 32 bits of ra.
     pub(crate) fn back(&self) -> u32
         ensures { result ≡ back self.now.machine }
     {
         (self.machine.reg(Reg::Ra) % (1 << 32)) as u32
     }
 
-    /// The machine goes on there, behind a poll.
+    /// The entry is done: the machine goes on behind the jump that called it, after a poll.
     pub(crate) fn go_back(&mut self)
         ensures { self.new ≡ goes_back self.old }
     {
@@ -57,7 +67,7 @@ impl Automaton {
         self.phase = Phase::Polling;
     }
 
-    /// What follows where a runtime call is done: a poll, or the round of a worker without a thread.
+    /// What follows where the thread that called an entry may have left: a poll of the thread that is on top now, or a round where there is none.
     pub(crate) fn go_on(&mut self)
         ensures { self.new ≡ went_on self.old }
     {
@@ -68,7 +78,7 @@ impl Automaton {
         };
     }
 
-    /// The note of the top thread.
+    /// The note of the top thread, which is there.
     pub(crate) fn top(&self) -> Note
         requires { self.now.threads.notes ≢ [] }
         ensures { result ≡ top self.now.threads.notes }
@@ -106,7 +116,7 @@ impl Automaton {
         };
     }
 
-    /// The waiters of a list, the next one first. A thread that has ended with nothing below it leaves its unit.
+    /// The next waiter of a list comes in hand. Where there is none, the thread on top polls; a worker without a thread takes away the unit of the one that has ended.
     pub(crate) fn wake(&mut self, rest: Rest)
         ensures { self.new ≡ wakes rest self.old }
     {

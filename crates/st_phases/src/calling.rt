@@ -11,7 +11,7 @@ use st_base::image::Image;
 use st_words::board::{Board, NamesView};
 
 impl Automaton {
-    /// The runtime's part at an entry.
+    /// The first step of what the runtime does at an entry.
     fn serve<B: Board, N: NamesView>(&mut self, entry: Entry, board: &mut B) -> Turn
         requires { MayServe (λ s. Asked B.view B.serves B.says B.forward B.moves N.after board.old self.old.number s) self.old entry }
         ensures { Serves (λ s a b. StepMade B.view B.serves B.says B.did N.after board.old self.old.number s a b) board.old self.old entry result self.new board.new }
@@ -28,7 +28,7 @@ impl Automaton {
         }
     }
 
-    /// The thread goes on.
+    /// The thread goes on: an instruction, or an entry that it has called.
     pub(crate) fn run<B: Board, N: NamesView>(
         &mut self,
         image: &Image,

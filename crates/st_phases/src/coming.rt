@@ -32,7 +32,7 @@ fn cell_of(wait: Waiting) -> u32
 }
 
 impl Automaton {
-    /// The root's machine, where the chain is its first: `main` begins, with the length of the input.
+    /// Where the chain is the root's first, `main` begins: it returns to st_end, with the length of the input in a0.
     fn start(&mut self, wait: Waiting, main_at: u32)
         ensures goes { self.new ≡ started wait main_at self.old }
         ensures values { AreValues self.old.machine → AreValues self.new.machine }
@@ -69,7 +69,7 @@ impl Automaton {
         Turn::Ran(Point::Took)
     }
 
-    /// A chain in the turn, whose Standing word is 1, goes on, or what it waited for is seen first.
+    /// A chain whose Standing is 1 goes on. Where it waited at a cell, that cell is looked at first.
     pub(crate) fn take_on(&mut self, chain: Chain, main_at: u32) -> Turn
         requires { self.old.threads.notes ≡ [] }
         ensures { TakesOn chain.wait chain main_at self.old result self.new }
@@ -83,7 +83,7 @@ impl Automaton {
         }
     }
 
-    /// The Standing word of the chain becomes 1.
+    /// The Standing of the chain's thread becomes 1.
     pub(crate) fn come<B: Board, N: NamesView>(
         &mut self,
         chain: Chain,
@@ -99,7 +99,7 @@ impl Automaton {
         self.take_on(chain, main_at)
     }
 
-    /// The State of what it waited for is seen.
+    /// The State of the cell at which it waited is loaded.
     pub(crate) fn see_state<B: Board, N: NamesView>(
         &mut self,
         chain: Chain,
@@ -119,7 +119,7 @@ impl Automaton {
         self.arrive(chain, None, main_at)
     }
 
-    /// The value of the future that it touched is loaded.
+    /// The value of the future that it has touched is loaded, and comes into a0.
     pub(crate) fn see_value<B: Board, N: NamesView>(
         &mut self,
         chain: Chain,

@@ -7,13 +7,11 @@ ghost use Rattle.st_words.specs.Steps.{CellLoad, CellStore, CellChange, Done, Nu
 ghost use Rattle.st_words.specs.declared.view.CellWord.TheVariants as words;
 ghost use Rattle.st_step.specs.Moves.{register};
 ghost use Rattle.st_chain.specs.Forks.{AreRising};
-ghost use Rattle.st_phases.specs.Automaton.{top, with_phase};
-ghost use Rattle.st_phases.specs.Ending.{below_goes_on, filled, rest_of};
-ghost use Rattle.st_phases.specs.Automaton.{wakes};
+ghost use Rattle.st_phases.specs.Automaton.{top, with_phase, wakes};
+ghost use Rattle.st_phases.specs.Ending.{below_goes_on, filled, ended_or_step, rest_of};
 ghost use Rattle.st_phases.specs.declared.phase.Phase.TheVariants as phases;
 ghost use Rattle.st_phases.specs.declared.turn.Point.TheVariants as points;
 ghost use Rattle.st_phases.specs.declared.turn.Turn.TheVariants.{Ran};
-ghost use Rattle.st_phases.specs.Ending.{ended_or_step};
 
 use crate::automaton::Automaton;
 use crate::entries::FORK_OUT;
@@ -26,13 +24,14 @@ use st_chain::forks::handle_of;
 use st_words::board::{Board, NamesView};
 use st_words::view::CellWord;
 
-/// The State word of a full future, and the Standing word of a thread that has ended.
+/// The State word of a full future.
 pub(crate) const FULL: u64 = 1 << 32;
 
+/// The Standing word of a thread that has ended.
 const ENDED: u64 = 5;
 
 impl Automaton {
-    /// The value of the top thread is stored.
+    /// The value of the top thread, which is in a0, is stored.
     pub(crate) fn set_value<B: Board, N: NamesView>(&mut self, board: &mut B) -> Turn
         requires some { self.old.threads.notes ≢ [] }
         requires may { Asked B.view B.serves B.says B.forward B.moves N.after board.old self.old.number (CellStore (top self.old.threads.notes).cell words.Value (register self.old.machine registers.A0)) }
@@ -46,7 +45,7 @@ impl Automaton {
         RAN
     }
 
-    /// The State of its cell is seen.
+    /// The State of its cell is loaded.
     pub(crate) fn find<B: Board, N: NamesView>(&mut self, board: &mut B) -> Turn
         requires some { self.old.threads.notes ≢ [] }
         requires may { Asked B.view B.serves B.says B.forward B.moves N.after board.old self.old.number (CellLoad (top self.old.threads.notes).cell words.State) }
@@ -59,7 +58,7 @@ impl Automaton {
         RAN
     }
 
-    /// The thread below goes on behind its fork, whose register gets the cell of the one that has ended.
+    /// At the end of a child the thread below goes on behind its fork, whose register gets the child's cell.
     fn go_on_below(&mut self, forks: &[ForkRow], cell: u32)
         requires { AreRising 0 forks.now }
         ensures { self.new ≡ below_goes_on forks.now cell self.old }
@@ -74,7 +73,7 @@ impl Automaton {
         self.machine.set_pc(back);
     }
 
-    /// The cell of the top thread becomes full, and the thread ends.
+    /// The cell of the top thread becomes full, and the thread goes out. Where its State has become another one, that is tried anew.
     pub(crate) fn fill<B: Board, N: NamesView>(
         &mut self,
         seen: u64,
@@ -101,7 +100,7 @@ impl Automaton {
         }
     }
 
-    /// That it has ended is told, and its waiters are waked.
+    /// The Standing of the thread that has ended becomes 5, and its waiters come in hand.
     pub(crate) fn end<B: Board, N: NamesView>(
         &mut self,
         cell: u32,

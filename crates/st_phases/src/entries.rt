@@ -1,4 +1,4 @@
-//! The running thread: its instructions, and the entries that it calls.
+//! What the runtime does at the entries that a thread calls: forks, counters, touches, and joins.
 ghost use Rattle.std.specs.Prelude.{◌≡◌, ◌≢◌, ◌+◌, ◌%◌, ◌^◌, ◌<◌, ◌≤◌, ℕ, [], length};
 ghost use Rattle.st_cells.specs.Cells.{FitsWord, owner_word, counted_up};
 ghost use Rattle.st_cells.specs.declared.found.Owner.{Owner};
@@ -25,30 +25,24 @@ use st_cells::found::{Looked, Owner};
 use st_words::board::{Board, NamesView};
 use st_words::view::CellWord;
 
-/// Where the entries stand.
-pub(crate) const FORK_IN: u32 = 0x10;
-
+/// The addresses of entries. Behind a fork's call:
 pub(crate) const FORK_OUT: u32 = 0x20;
 
+/// where a thread's first function returns to:
 pub(crate) const END: u32 = 0x30;
 
-pub(crate) const TOUCH: u32 = 0x40;
+/// and of calls of the runtime.
+const TOUCH: u32 = 0x40;
 
-pub(crate) const COUNTER: u32 = 0x50;
+const COUNTER: u32 = 0x50;
 
-pub(crate) const DONE: u32 = 0x60;
-
-pub(crate) const JOIN: u32 = 0x70;
-
-pub(crate) const POLL: u32 = 0x80;
-
-pub(crate) const PUTC: u32 = 0x90;
+const DONE: u32 = 0x60;
 
 /// The Standing word of a thread that runs.
 pub(crate) const RUNNING: u64 = 1;
 
-/// What a Trap word has of a trap.
-pub(crate) fn number_of(kind: TrapKind) -> u64
+/// The low four bits of a Trap word, of a trap.
+pub(crate) fn trap_number(kind: TrapKind) -> u64
     ensures { result ≡ trap_number kind }
 {
     match kind {
@@ -61,7 +55,7 @@ pub(crate) fn number_of(kind: TrapKind) -> u64
 }
 
 impl Automaton {
-    /// The thread stops at an entry that it has called.
+    /// The thread stops at the entry that it has called, by this number of its Trap word.
     pub(crate) fn stop_at_call(&mut self, kind: u64)
         ensures { self.new ≡ stops_at_call kind self.old }
     {
@@ -73,10 +67,10 @@ impl Automaton {
         });
     }
 
-    /// A number is drawn, of a child or a counter.
+    /// The number of a cell is drawn, for a child or a counter; where all are drawn, that limit is met.
     pub(crate) fn draw<B: Board, N: NamesView>(&mut self, board: &mut B) -> Turn
-        requires may { Asked B.view B.serves B.says B.forward B.moves N.after board.old self.old.number (Draw) }
-        ensures made { (found : ℕ) × StepMade B.view B.serves B.says B.did N.after board.old self.old.number (Draw) (Number found) board.new × (self.new ≡ drawn found self.old) }
+        requires may { Asked B.view B.serves B.says B.forward B.moves N.after board.old self.old.number Draw }
+        ensures made { (found : ℕ) × StepMade B.view B.serves B.says B.did N.after board.old self.old.number Draw (Number found) board.new × (self.new ≡ drawn found self.old) }
         ensures turn { result ≡ Ran points.Step }
     {
         self.phase = match cells::draw::<B, N>(board, self.number, self.cells) {
@@ -86,7 +80,7 @@ impl Automaton {
         RAN
     }
 
-    /// What an Owner word tells of the cell that was drawn.
+    /// What the Owner word of the cell that was drawn tells.
     fn owner(&self) -> Owner
         requires { self.now.threads.notes ≢ [] }
         ensures { result ≡ owner_of self.now }
@@ -100,7 +94,7 @@ impl Automaton {
         }
     }
 
-    /// The cell gets its name.
+    /// The Owner of the cell that was drawn is stored. A counter's number comes into a6; a child begins next.
     pub(crate) fn name<B: Board, N: NamesView>(&mut self, cell: u32, board: &mut B) -> Turn
         requires some { self.old.threads.notes ≢ [] }
         requires room { length self.old.threads.notes ≤ self.old.threads.room }
@@ -126,7 +120,7 @@ impl Automaton {
         RAN
     }
 
-    /// The child, whose cell is named, begins.
+    /// The child, whose cell is named, begins as the top thread.
     pub(crate) fn begin<B: Board, N: NamesView>(&mut self, cell: u32, board: &mut B) -> Turn
         requires some { self.old.threads.notes ≢ [] }
         requires room { length self.old.threads.notes < self.old.threads.room }
@@ -159,7 +153,7 @@ impl Automaton {
         (self.machine.reg(Reg::A6) % (1 << 32)) as u32
     }
 
-    /// Whether the cell in a6 is of the kind that the entry wants.
+    /// The Owner of the cell in a6 is loaded. The thread stops where the cell isn't of the kind that the entry wants.
     pub(crate) fn see_kind<B: Board, N: NamesView>(&mut self, board: &mut B) -> Turn
         requires may { Asked B.view B.serves B.says B.forward B.moves N.after board.old self.old.number (CellLoad (handle_in self.old.machine) words.Owner) }
         ensures made { (found : ℕ) × (owner : Owner) × StepMade B.view B.serves B.says B.did N.after board.old self.old.number (CellLoad (handle_in self.old.machine) words.Owner) (Number found) board.new × ((o : Owner) → FitsWord o → found ≡ owner_word o → owner ≡ o) × (self.new ≡ kind_seen owner.counter self.old) }
@@ -169,14 +163,14 @@ impl Automaton {
         let owner = cells::owner::<B, N>(board, self.number, cell);
         let wants_future = self.machine.pc() == TOUCH;
         if owner.counter == wants_future {
-            self.stop_at_call(number_of(TrapKind::WrongHandle));
+            self.stop_at_call(trap_number(TrapKind::WrongHandle));
         } else {
             self.phase = Phase::Looking { cell };
         }
         RAN
     }
 
-    /// Whether the wait at the cell in a6 is over.
+    /// The State of the cell is loaded: at a touch or a join it tells whether the thread waits, and at a done what the count is.
     pub(crate) fn look<B: Board, N: NamesView>(&mut self, cell: u32, board: &mut B) -> Turn
         requires may { Asked B.view B.serves B.says B.forward B.moves N.after board.old self.old.number (CellLoad cell words.State) }
         ensures made { (found : ℕ) × StepMade B.view B.serves B.says B.did N.after board.old self.old.number (CellLoad cell words.State) (Number found) board.new × (self.new ≡ looked cell found self.old) }
@@ -204,7 +198,7 @@ impl Automaton {
         RAN
     }
 
-    /// The thread waits.
+    /// The thread waits, by a State word that was seen.
     fn wait(&mut self, wait: Waiting, seen: u64)
         ensures { self.new ≡ waits_at wait seen self.old }
     {
@@ -216,7 +210,7 @@ impl Automaton {
         });
     }
 
-    /// The value of the future comes into a0.
+    /// The value of the future, which is full, comes into a0.
     pub(crate) fn get_value<B: Board, N: NamesView>(&mut self, cell: u32, board: &mut B) -> Turn
         requires may { Asked B.view B.serves B.says B.forward B.moves N.after board.old self.old.number (CellLoad cell words.Value) }
         ensures made { (found : ℕ) × StepMade B.view B.serves B.says B.did N.after board.old self.old.number (CellLoad cell words.Value) (Number found) board.new × (self.new ≡ got found self.old) × (found < 2 ^ 64) }
@@ -228,7 +222,7 @@ impl Automaton {
         RAN
     }
 
-    /// The counter counts one more.
+    /// The counter counts one more, and its waiters come in hand. Where its State has become another one, that is tried anew.
     pub(crate) fn add<B: Board, N: NamesView>(
         &mut self,
         cell: u32,

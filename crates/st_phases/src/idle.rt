@@ -32,14 +32,15 @@ use st_steal::requests;
 use st_words::board::{Board, NamesView};
 use st_words::view::Slot;
 
-/// What the own mail word says to a worker whose request stands.
+/// The own mail word where a chain was given.
 const GIVEN: u64 = 2;
 
+/// The own mail word where the request was refused.
 const REFUSED: u64 = 3;
 
 impl Automaton {
-    /// A frame is taken back; behind the last one the round begins.
-    pub(crate) fn shrink_idle<B: Board, N: NamesView>(&mut self, board: &mut B) -> Turn
+    /// One exported frame is taken back. Where none can be, the stop word is read next.
+    fn shrink_idle<B: Board, N: NamesView>(&mut self, board: &mut B) -> Turn
         requires stack { IsStackOf self.old.number self.old.stack.lo self.old.stack.hi }
         requires may { (f : Frame) → IsLowest self.old.stack.exported f → IsFrameOn self.old.stack.lo self.old.stack.hi f → Asked B.view B.serves B.says B.forward B.moves N.after board.old self.old.number (Look (return_place f)) }
         ensures shrunk { (shrunk : Shrunk) × Shrinks B.view B.serves B.says B.did N.after board.old self.old.number self.old.stack.hi self.old.stack.exported self.new.stack.exported None shrunk board.new × IsShrunkIdle shrunk self.old self.new }
@@ -56,8 +57,8 @@ impl Automaton {
 
     /// The stop word is read.
     pub(crate) fn read_stop<B: Board, N: NamesView>(&mut self, board: &mut B) -> Turn
-        requires may { Asked B.view B.serves B.says B.forward B.moves N.after board.old self.old.number (StopLoad) }
-        ensures made { (found : ℕ) × StepMade B.view B.serves B.says B.did N.after board.old self.old.number (StopLoad) (Number found) board.new × (self.new ≡ heeded phases.Active found self.old) × (result ≡ over_or_idle found) }
+        requires may { Asked B.view B.serves B.says B.forward B.moves N.after board.old self.old.number StopLoad }
+        ensures made { (found : ℕ) × StepMade B.view B.serves B.says B.did N.after board.old self.old.number StopLoad (Number found) board.new × (self.new ≡ heeded phases.Active found self.old) × (result ≡ over_or_idle found) }
     {
         let word = board.stop_load::<N>(self.number);
         self.since = 0;
@@ -70,8 +71,8 @@ impl Automaton {
 
     /// The active count is read.
     pub(crate) fn read_active<B: Board, N: NamesView>(&mut self, board: &mut B) -> Turn
-        requires may { Asked B.view B.serves B.says B.forward B.moves N.after board.old self.old.number (ActiveLoad) }
-        ensures made { (found : ℕ) × StepMade B.view B.serves B.says B.did N.after board.old self.old.number (ActiveLoad) (Number found) board.new × (self.new ≡ active_read found self.old) × (result ≡ active_turn found) }
+        requires may { Asked B.view B.serves B.says B.forward B.moves N.after board.old self.old.number ActiveLoad }
+        ensures made { (found : ℕ) × StepMade B.view B.serves B.says B.did N.after board.old self.old.number ActiveLoad (Number found) board.new × (self.new ≡ active_read found self.old) × (result ≡ active_turn found) }
     {
         let word = board.active_load::<N>(self.number);
         if word == 0 {
@@ -81,7 +82,7 @@ impl Automaton {
         Turn::Idle { word }
     }
 
-    /// The chain of a slot that has one comes.
+    /// The chain is taken out of the slot of a cell, and comes to run.
     fn fetch<B: Board, N: NamesView>(&mut self, cell: u32, board: &mut B)
         requires may { Asked B.view B.serves B.says B.forward B.moves N.after board.old self.old.number (SlotTake (slots.Cell cell)) }
         requires some { NeverEmpty (λ a. B.says board.old self.old.number (SlotTake (slots.Cell cell)) a) }
@@ -108,9 +109,9 @@ impl Automaton {
     }
 
     /// The Root word is taken.
-    pub(crate) fn take_root<B: Board, N: NamesView>(&mut self, board: &mut B) -> Turn
-        requires may { Asked B.view B.serves B.says B.forward B.moves N.after board.old self.old.number (RootTake) }
-        ensures made { (found : Bool) × StepMade B.view B.serves B.says B.did N.after board.old self.old.number (RootTake) (Number (from_bool found)) board.new × (self.new ≡ root_taken found self.old) × (result ≡ root_turn found) }
+    fn take_root<B: Board, N: NamesView>(&mut self, board: &mut B) -> Turn
+        requires may { Asked B.view B.serves B.says B.forward B.moves N.after board.old self.old.number RootTake }
+        ensures made { (found : Bool) × StepMade B.view B.serves B.says B.did N.after board.old self.old.number RootTake (Number (from_bool found)) board.new × (self.new ≡ root_taken found self.old) × (result ≡ root_turn found) }
     {
         if board.root_take::<N>(self.number) {
             self.phase = Phase::First;
@@ -131,7 +132,7 @@ impl Automaton {
         RAN
     }
 
-    /// The own request word is read.
+    /// The own request word is read, which tells whether a worker asks.
     pub(crate) fn read_request<B: Board, N: NamesView>(&mut self, board: &mut B) -> Turn
         requires may { Asked B.view B.serves B.says B.forward B.moves N.after board.old self.old.number (RequestLoad self.old.number) }
         ensures made { (found : ℕ) × (asker : Option ℕ) × StepMade B.view B.serves B.says B.did N.after board.old self.old.number (RequestLoad self.old.number) (Number found) board.new × IsAsker found asker × (self.new ≡ request_read asker self.old) × (result ≡ request_turn asker) }
@@ -148,10 +149,10 @@ impl Automaton {
         }
     }
 
-    /// The own mail word is read.
+    /// The own mail word is read, which tells whether the own request is answered.
     pub(crate) fn read_mail<B: Board, N: NamesView>(&mut self, board: &mut B) -> Turn
-        requires may { Asked B.view B.serves B.says B.forward B.moves N.after board.old self.old.number (MailLoad) }
-        ensures made { (found : ℕ) × StepMade B.view B.serves B.says B.did N.after board.old self.old.number (MailLoad) (Number found) board.new × (self.new ≡ mail_read found self.old) × (result ≡ mail_turn found self.old) }
+        requires may { Asked B.view B.serves B.says B.forward B.moves N.after board.old self.old.number MailLoad }
+        ensures made { (found : ℕ) × StepMade B.view B.serves B.says B.did N.after board.old self.old.number MailLoad (Number found) board.new × (self.new ≡ mail_read found self.old) × (result ≡ mail_turn found self.old) }
     {
         let word = board.mail_load::<N>(self.number);
         if self.asked.is_some() && word == GIVEN {
@@ -192,7 +193,7 @@ impl Automaton {
         RAN
     }
 
-    /// The own mail word becomes nothing.
+    /// The own mail word becomes nothing, and what is behind that begins.
     pub(crate) fn empty_mail<B: Board, N: NamesView>(
         &mut self,
         behind: Behind,
@@ -218,8 +219,8 @@ impl Automaton {
         }
     }
 
-    /// A request that stands is withdrawn.
-    pub(crate) fn withdraw<B: Board, N: NamesView>(&mut self, v: u32, board: &mut B) -> Turn
+    /// The request that stands at a worker is withdrawn, if its answer hasn't begun.
+    fn withdraw<B: Board, N: NamesView>(&mut self, v: u32, board: &mut B) -> Turn
         requires may { Asked B.view B.serves B.says B.forward B.moves N.after board.old self.old.number (RequestChange v (asking self.old.number) 0) }
         ensures made { (found : ℕ) × StepMade B.view B.serves B.says B.did N.after board.old self.old.number (RequestChange v (asking self.old.number) 0) (Number found) board.new × (self.new ≡ withdrawn found self.old) × (result ≡ withdraw_turn found self.old) }
     {
@@ -239,7 +240,7 @@ impl Automaton {
         }
     }
 
-    /// The seventh place: a request that stands is withdrawn, or the own mail word becomes waiting, so that another worker may be asked.
+    /// A request that stands is withdrawn. Where none stands, the own mail word becomes waiting, so that another worker may be asked.
     pub(crate) fn seventh<B: Board, N: NamesView>(&mut self, board: &mut B) -> Turn
         requires { MaySeventh (λ s. Asked B.view B.serves B.says B.forward B.moves N.after board.old self.old.number s) self.old self.old.asked }
         ensures { Sevenths (λ s a b. StepMade B.view B.serves B.says B.did N.after board.old self.old.number s a b) self.old self.old.asked result self.new board.new }
@@ -250,11 +251,11 @@ impl Automaton {
         }
     }
 
-    /// A round begins. Where no frame is exported nothing is read for that, and the turn is the first place's.
+    /// A round begins: a frame is taken back. Where none is exported, the stop word is read in this turn.
     pub(crate) fn begin_round<B: Board, N: NamesView>(&mut self, board: &mut B) -> Turn
         requires stack { IsStackOf self.old.number self.old.stack.lo self.old.stack.hi }
         requires looks { (f : Frame) → IsLowest self.old.stack.exported f → IsFrameOn self.old.stack.lo self.old.stack.hi f → Asked B.view B.serves B.says B.forward B.moves N.after board.old self.old.number (Look (return_place f)) }
-        requires stop { Asked B.view B.serves B.says B.forward B.moves N.after board.old self.old.number (StopLoad) }
+        requires stop { Asked B.view B.serves B.says B.forward B.moves N.after board.old self.old.number StopLoad }
         ensures { (limit : ℕ) × IsLimit self.old.stack.hi self.old.stack.exported limit × RoundBegins (λ before after top shrunk new. Shrinks B.view B.serves B.says B.did N.after board.old self.old.number self.old.stack.hi before after top shrunk new) (λ s a b. StepMade B.view B.serves B.says B.did N.after board.old self.old.number s a b) (limit == self.old.machine.hi) self.old result self.new board.new }
     {
         let high = self.machine.high_end();
@@ -266,7 +267,7 @@ impl Automaton {
     }
 
     /// The own mail word becomes waiting.
-    pub(crate) fn wait_for_mail<B: Board, N: NamesView>(&mut self, board: &mut B) -> Turn
+    fn wait_for_mail<B: Board, N: NamesView>(&mut self, board: &mut B) -> Turn
         requires may { Asked B.view B.serves B.says B.forward B.moves N.after board.old self.old.number (MailStore self.old.number waiting) }
         ensures made { StepMade B.view B.serves B.says B.did N.after board.old self.old.number (MailStore self.old.number waiting) (Done) board.new }
         ensures goes { self.new ≡ with_phase phases.Placing self.old }
@@ -277,7 +278,7 @@ impl Automaton {
         RAN
     }
 
-    /// The other worker that is asked next: they are asked in turn.
+    /// The worker that is asked next: the others are asked in turn.
     fn next_other(&self) -> u32
         requires last { self.now.last < self.now.workers }
         requires few { self.now.workers ≤ 16 }
@@ -291,7 +292,7 @@ impl Automaton {
         }
     }
 
-    /// Another worker is asked.
+    /// Another worker is asked, if no request stands there.
     pub(crate) fn place<B: Board, N: NamesView>(&mut self, board: &mut B) -> Turn
         requires last { self.old.last < self.old.workers }
         requires few { self.old.workers ≤ 16 }

@@ -25,19 +25,20 @@ use st_chain::logical::Moved;
 use st_words::board::{Board, NamesView};
 use st_words::view::{CellWord, Slot};
 
-/// The Standing words of a thread that waits, and of one that has stopped.
+/// The Standing word of a thread that waits.
 const WAITS: u64 = 2;
 
+/// The Standing word of a thread that has stopped.
 const STOPPED: u64 = 4;
 
-/// Where the item stands at which a thread leaves that goes on at a place.
+/// The place of the item at which a thread leaves: one word before the place at which it goes on, where that item is a call.
 fn item_place(pc: u32, at_call: bool) -> u32
     ensures { result ≡ item_place pc at_call }
 {
     if at_call { pc.saturating_sub(4) } else { pc }
 }
 
-/// The Standing word of a thread that leaves.
+/// The Standing word of a thread that leaves: it waits where the low bits of its Trap word are 0.
 fn standing_word(kind: u64) -> u64
     ensures { result ≡ standing_word kind }
 {
@@ -57,7 +58,7 @@ impl Automaton {
         RAN
     }
 
-    /// A step of its suspension.
+    /// A step of taking it off: its frames are walked, and at the end its chain is known.
     pub(crate) fn suspend<B: Board, N: NamesView>(
         &mut self,
         leaving: Leaving,
@@ -119,7 +120,7 @@ impl Automaton {
         RAN
     }
 
-    /// Its chain is put into its slot.
+    /// Its chain is put into its slot. A thread that waits is a waiter in hand then, and the unit of one that has stopped is taken away.
     pub(crate) fn slot<B: Board, N: NamesView>(
         &mut self,
         chain: Chain,

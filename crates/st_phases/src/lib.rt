@@ -1,4 +1,4 @@
-//! A worker as a state machine: each phase makes one step of the board, or none.
+//! A worker as a state machine: each turn of it goes through one phase, and makes one step of the board, or none. Read `Automaton::turn`.
 #![tactic(auto)]
 
 mod answering;

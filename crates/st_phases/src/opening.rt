@@ -16,7 +16,7 @@ use st_steal::ready::ReadyList;
 use st_step::Machine;
 use std::alloc::{AllocError, Global};
 
-/// A machine on an empty stack.
+/// A machine on an empty stack, whose sp and gp are at its high end.
 fn machine_on(lo: u64, hi: u64) -> Machine
     ensures { result ≡ empty_machine lo hi }
 {
@@ -27,7 +27,9 @@ fn machine_on(lo: u64, hi: u64) -> Machine
 }
 
 impl Automaton {
-    /// The worker of a number among so many, without a thread, for an image and an input of so many bytes. All its memory is taken here.
+    /// The worker `number` of `workers`, 1 to 16, without a thread, for an image and an input of `length` bytes. A round is to begin.
+    ///
+    /// All its memory is taken here; an error tells that there was not enough.
     pub fn open(
         alloc: Global,
         image: &Image,

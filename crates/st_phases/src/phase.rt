@@ -1,4 +1,4 @@
-//! Where a worker is between two turns: what its next step of the board is.
+//! Where a worker is between two turns: what its next turn does.
 
 use st_base::chain::{Chain, Waiting};
 use st_base::limits::LimitKind;
@@ -16,11 +16,14 @@ pub struct Rest {
     pub next: u64,
 }
 
-/// A waiter in hand, to be made ready or parked at its wait, by the State word that was seen last.
+/// A waiter in hand, to be made ready or parked, by the State word of the cell at which it waits.
 #[derive(Clone, Copy)]
 pub struct Settling {
+    /// Its cell.
     pub waiter: u32,
+    /// What it waits for.
     pub wait: Waiting,
+    /// The State word that was seen last.
     pub seen: u64,
     /// Those behind it, where it is of a list; `None` where it is the thread that was taken out here.
     pub rest: Option<Rest>,
@@ -29,6 +32,7 @@ pub struct Settling {
 /// Why the top thread is taken out.
 #[derive(Clone, Copy)]
 pub struct Leaving {
+    /// What it waits for, or that it has trapped.
     pub wait: Waiting,
     /// The low four bits of its Trap word: 0 where it waits.
     pub kind: u64,
@@ -38,7 +42,7 @@ pub struct Leaving {
     pub at_call: bool,
 }
 
-/// What comes behind the own mail word's becoming nothing.
+/// What comes after the own mail word has become nothing.
 #[derive(Clone, Copy)]
 pub enum Behind {
     /// This chain, which was taken out of the mail.
@@ -49,7 +53,10 @@ pub enum Behind {
     Round,
 }
 
-/// What the next turn of a worker does. Of an item that calls an entry of the runtime the machine's pc tells which it is.
+/// What the next turn of a worker does. Where a thread is at an entry of the runtime, the machine's pc tells which.
+///
+/// A `cell`, and a `waiter`, is the number of a cell, `seen` the State word that was seen last, and `head` the number of the first waiter and 1, or 0
+/// where none waits. An `asker` is the number of the worker whose request is in hand. A unit is one of the active count.
 #[derive(Clone, Copy)]
 pub enum Phase {
     /// A thread runs: the machine is at an instruction or at an entry.
@@ -61,7 +68,7 @@ pub enum Phase {
     Naming { cell: u32 },
     /// The child's cell is named: its Standing becomes 1, and it begins.
     Beginning { cell: u32 },
-    /// The cell in a6 is of the right kind: its State is loaded.
+    /// The cell in a6 is of the kind that the entry wants: its State is loaded.
     Looking { cell: u32 },
     /// The future is full: its value is loaded.
     Valuing { cell: u32 },
@@ -134,7 +141,7 @@ pub enum Phase {
     /// and a future's value is loaded.
     Getting { chain: Chain },
 
-    /// A round begins: frames are taken back.
+    /// A round begins: frames are taken back; where there are none, the stop word is read at once.
     Settled,
     /// The stop word is read.
     Stop,

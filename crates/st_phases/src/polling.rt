@@ -29,7 +29,7 @@ use st_steal::requests;
 use st_words::board::{Board, NamesView};
 
 impl Automaton {
-    /// The own request word is read.
+    /// The own request word is read, which tells whether a worker asks.
     pub(crate) fn poll<B: Board, N: NamesView>(&mut self, board: &mut B) -> Turn
         requires may { Asked B.view B.serves B.says B.forward B.moves N.after board.old self.old.number (RequestLoad self.old.number) }
         ensures made { (found : ℕ) × (asker : Option ℕ) × StepMade B.view B.serves B.says B.did N.after board.old self.old.number (RequestLoad self.old.number) (Number found) board.new × IsAsker found asker × (self.new ≡ with_phase (phases.Heeding asker) self.old) }
@@ -42,8 +42,8 @@ impl Automaton {
 
     /// The stop word is read.
     pub(crate) fn heed<B: Board, N: NamesView>(&mut self, asker: Option<u32>, board: &mut B) -> Turn
-        requires may { Asked B.view B.serves B.says B.forward B.moves N.after board.old self.old.number (StopLoad) }
-        ensures made { (found : ℕ) × StepMade B.view B.serves B.says B.did N.after board.old self.old.number (StopLoad) (Number found) board.new × (self.new ≡ heeded (phases.Shrinking asker) found self.old) × (result ≡ over_or_step found) }
+        requires may { Asked B.view B.serves B.says B.forward B.moves N.after board.old self.old.number StopLoad }
+        ensures made { (found : ℕ) × StepMade B.view B.serves B.says B.did N.after board.old self.old.number StopLoad (Number found) board.new × (self.new ≡ heeded (phases.Shrinking asker) found self.old) × (result ≡ over_or_step found) }
     {
         let word = board.stop_load::<N>(self.number);
         self.since = 0;
@@ -71,7 +71,7 @@ impl Automaton {
         None
     }
 
-    /// The thread goes on, by a stack whose limit is known.
+    /// The thread goes on, with the limit of the stack in gp.
     pub(crate) fn run_on(&mut self)
         ensures runs { RunsOn self.old self.new }
         ensures values { AreValues self.old.machine → AreValues self.new.machine }
@@ -80,7 +80,7 @@ impl Automaton {
         self.phase = Phase::Running;
     }
 
-    /// A frame is taken back; behind the last one the request is answered, or the thread goes on.
+    /// One exported frame is taken back. Where none can be, the request is answered, or the thread goes on.
     pub(crate) fn shrink<B: Board, N: NamesView>(
         &mut self,
         asker: Option<u32>,

@@ -14,7 +14,7 @@ ghost use Rattle.st_phases.specs.declared.turn.Point.TheVariants as points;
 ghost use Rattle.st_phases.specs.declared.turn.Turn.TheVariants.{Ran};
 
 use crate::automaton::Automaton;
-use crate::entries::number_of;
+use crate::entries::trap_number;
 use crate::phase::{Leaving, Phase};
 use crate::turn::{RAN, Turn};
 use st_base::chain::{Note, Waiting};
@@ -26,13 +26,14 @@ use st_items::code::word_index;
 use st_step::{Decoded, StepEnd};
 use st_words::board::{Board, NamesView};
 
-/// How many bytes may be printed, and what a Trap word has of the full output.
+/// How many bytes may be printed.
 const MOST_PRINTED: u32 = 1_048_576;
 
+/// The low four bits of the Trap word of a root that has printed as many.
 const FULL_OUTPUT: u64 = 15;
 
 impl Automaton {
-    /// What an instruction has come to, with which an item begins or not; sp was there before it.
+    /// What comes after an instruction: `before` is what sp was before it.
     fn go(&mut self, begins: bool, before: u64, end: StepEnd)
         requires { self.old.frame_bytes + before < 2 ^ 64 }
         ensures { self.new ≡ went begins before end self.old }
@@ -40,7 +41,7 @@ impl Automaton {
         match end {
             StepEnd::Trap(kind) => self.leave(Leaving {
                 wait: Waiting::Trapped,
-                kind: number_of(kind),
+                kind: trap_number(kind),
                 seen: 0,
                 at_call: false,
             }),
@@ -132,7 +133,7 @@ impl Automaton {
         RAN
     }
 
-    /// The root prints a byte.
+    /// The root prints the low byte of a0. A child stops here, and so does the root where as many bytes are printed as may be.
     pub(crate) fn print<B: Board, N: NamesView>(&mut self, board: &mut B) -> Turn
         requires some { self.old.threads.notes ≢ [] }
         requires room { length self.old.threads.notes ≤ self.old.threads.room }
@@ -143,7 +144,7 @@ impl Automaton {
     {
         let note = self.top();
         if note.cell != 0 {
-            self.stop_at_call(number_of(TrapKind::PutInChild));
+            self.stop_at_call(trap_number(TrapKind::PutInChild));
             return RAN;
         }
         if note.bytes == MOST_PRINTED {
@@ -161,7 +162,7 @@ impl Automaton {
         RAN
     }
 
-    /// The code of a limit is written.
+    /// The code of a limit is written, if none has been.
     pub(crate) fn stop<B: Board, N: NamesView>(&mut self, kind: LimitKind, board: &mut B) -> Turn
         requires may { Asked B.view B.serves B.says B.forward B.moves N.after board.old self.old.number (StopSet (stop_code self.old.number kind)) }
         ensures made { (found : ℕ) × StepMade B.view B.serves B.says B.did N.after board.old self.old.number (StopSet (stop_code self.old.number kind)) (Number found) board.new × (result ≡ stop_turn kind found) }

@@ -22,12 +22,13 @@ pub enum Point {
 /// What a turn comes to.
 #[derive(Clone, Copy, PartialEq, Eq, Debug)]
 pub enum Turn {
+    /// The worker went on, and did this.
     Ran(Point),
-    /// The worker has no thread, and the word that was read held no work for it.
+    /// The worker has no thread, and found no work at this place of its round. `word` is the word that it found, or 0 at the Root and the request word.
     Idle { word: u64 },
-    /// The active count was read as 0, or the stop word as not 0.
+    /// The run is over: the active count was found 0, or the stop word not 0. `word` is the word that was found.
     Over { word: u64 },
-    /// This worker met a limit, and its code was written.
+    /// This worker met the limit, and was the first to write a stop code.
     Limit(LimitKind),
 }
 

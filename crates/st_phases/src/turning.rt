@@ -16,7 +16,7 @@ use st_words::board::{Board, NamesView};
 const LATE: u32 = 4095;
 
 impl Automaton {
-    /// What the phase does.
+    /// What a turn in this phase does.
     fn go_through<B: Board, N: NamesView>(
         &mut self,
         phase: Phase,
@@ -85,8 +85,8 @@ impl Automaton {
 
     /// The stop word is read before all else.
     fn read_stop_first<B: Board, N: NamesView>(&mut self, board: &mut B) -> Turn
-        requires may { Asked B.view B.serves B.says B.forward B.moves N.after board.old self.old.number (StopLoad) }
-        ensures made { (found : ℕ) × StepMade B.view B.serves B.says B.did N.after board.old self.old.number (StopLoad) (Number found) board.new × (self.new ≡ heeded self.old.phase found self.old) × (result ≡ over_or_step found) }
+        requires may { Asked B.view B.serves B.says B.forward B.moves N.after board.old self.old.number StopLoad }
+        ensures made { (found : ℕ) × StepMade B.view B.serves B.says B.did N.after board.old self.old.number StopLoad (Number found) board.new × (self.new ≡ heeded self.old.phase found self.old) × (result ≡ over_or_step found) }
     {
         let word = board.stop_load::<N>(self.number);
         self.since = 0;
@@ -98,8 +98,8 @@ impl Automaton {
 
     /// One turn of the worker: at most one step of the board, by its phase, and no memory. See `Turned` in `specs/Turning`.
     ///
-    /// It asks that each step of the board which its phase may need may be asked (`MayTurn`). `Over` comes exactly where it has read the stop word
-    /// as not 0, or the active count as 0, and carries the word; `Limit` exactly where it has written the code of a limit that the worker met;
+    /// It asks that each step of the board which its phase may need may be asked (`MayTurn`). `Over` comes exactly where it has found the stop word
+    /// not 0, or the active count 0, and carries the word; `Limit` exactly where it has written the code of a limit that the worker met;
     /// `Idle` only to a worker without a thread, with the word that held no work for it.
     pub fn turn<B: Board, N: NamesView>(
         &mut self,

@@ -38,7 +38,7 @@ fn is_over(wait: Waiting, seen: u64) -> bool
     }
 }
 
-/// The State word of the cell of a wait, with the waiter at its head.
+/// The waiter becomes the first one at the cell of its wait, if that cell's State is still `seen`.
 fn park<B: Board, N: NamesView>(
     board: &mut B,
     w: u32,
@@ -78,7 +78,7 @@ impl Automaton {
         RAN
     }
 
-    /// A unit is added for it. One that waited for a future is ready then; the chain of one that waits at a counter is looked at.
+    /// A unit is added for the waiter. One that waited for a future is ready then; the chain of one at a counter is looked at, which tells for which count it waits.
     pub(crate) fn raise<B: Board, N: NamesView>(
         &mut self,
         waiter: u32,
@@ -134,7 +134,7 @@ impl Automaton {
         };
     }
 
-    /// It is put back.
+    /// The chain is put back into its slot. What its waiter waits for is known now.
     pub(crate) fn put_back<B: Board, N: NamesView>(
         &mut self,
         chain: Chain,
@@ -156,7 +156,7 @@ impl Automaton {
         RAN
     }
 
-    /// The next one of the list, or what follows the call.
+    /// The next one of the list comes in hand; without a list, what follows the call.
     fn go_on_behind(&mut self, rest: Option<Rest>)
         ensures { self.new ≡ behind rest self.old }
     {
@@ -166,7 +166,7 @@ impl Automaton {
         }
     }
 
-    /// The waiter is ready.
+    /// The Standing of the waiter becomes 3, and its cell is the newest of the ready ones.
     pub(crate) fn make_ready<B: Board, N: NamesView>(
         &mut self,
         settling: Settling,
@@ -184,7 +184,7 @@ impl Automaton {
         RAN
     }
 
-    /// The waiter is linked before those that are parked.
+    /// The waiter's Next word tells who is parked already.
     pub(crate) fn link<B: Board, N: NamesView>(&mut self, settling: Settling, board: &mut B) -> Turn
         requires may { Asked B.view B.serves B.says B.forward B.moves N.after board.old self.old.number (CellStore settling.waiter words.Next (head_in settling.seen)) }
         ensures made { StepMade B.view B.serves B.says B.did N.after board.old self.old.number (CellStore settling.waiter words.Next (head_in settling.seen)) (Done) board.new }
@@ -196,7 +196,7 @@ impl Automaton {
         RAN
     }
 
-    /// It is parked.
+    /// It is parked: it becomes the first waiter. Where the State has become another one, that tells anew whether the wait is over.
     pub(crate) fn park<B: Board, N: NamesView>(&mut self, settling: Settling, board: &mut B) -> Turn
         requires few { settling.waiter < 65536 }
         requires waits { MayPark settling.wait settling.seen }
@@ -225,7 +225,7 @@ impl Automaton {
         RAN
     }
 
-    /// A unit is taken away.
+    /// A unit is taken away of the active count.
     pub(crate) fn lower<B: Board, N: NamesView>(
         &mut self,
         rest: Option<Rest>,
