@@ -1,7 +1,7 @@
 //! The calls on cells as calls of a worker: beside its arguments each takes what the view after it is named by, so that a caller can name the
 //! view by its own state, at a call through a bound.
 ghost use Rattle.std.specs.Prelude.{◌≡◌, ◌<◌, ◌+◌, ℕ};
-ghost use Rattle.st_words.specs.Encodings.{full_word, count_in, head_in, counter_word, count_after};
+ghost use Rattle.st_words.specs.Encodings.{is_counter, full_word, count_in, head_in, counter_word, count_after};
 ghost use Rattle.st_words.specs.Made.{Asked, StepMade};
 ghost use Rattle.st_words.specs.Steps.{CellLoad, CellStore, CellChange, Draw, Done, Number};
 ghost use Rattle.st_words.specs.declared.view.CellWord.TheVariants as words;
@@ -43,7 +43,7 @@ pub fn set_owner_by<B: Board, N: NamesView, T>(
 /// `owner` of a cell.
 pub fn owner_by<B: Board, N: NamesView, T>(_by: &T, board: &mut B, w: u32, cell: u32) -> Owner
     requires may { Asked B.view B.serves B.says B.forward B.moves N.after board.old w (CellLoad cell words.Owner) }
-    ensures made { (found : ℕ) × StepMade B.view B.serves B.says B.did N.after board.old w (CellLoad cell words.Owner) (Number found) board.new × ((owner : Owner) → FitsWord owner → found ≡ owner_word owner → result ≡ owner) }
+    ensures made { (found : ℕ) × StepMade B.view B.serves B.says B.did N.after board.old w (CellLoad cell words.Owner) (Number found) board.new × ((owner : Owner) → FitsWord owner → found ≡ owner_word owner → result ≡ owner) × (result.counter ≡ is_counter found) }
 {
     cells::owner::<B, N>(board, w, cell)
 }

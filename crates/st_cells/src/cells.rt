@@ -1,6 +1,6 @@
 //! The calls on cells. Each makes one step of the board, whose answer it reads.
 ghost use Rattle.std.specs.Prelude.{◌≡◌, ◌<◌, ◌+◌, ℕ};
-ghost use Rattle.st_words.specs.Encodings.{full_word, count_in, head_in, counter_word, count_after};
+ghost use Rattle.st_words.specs.Encodings.{is_counter, full_word, count_in, head_in, counter_word, count_after};
 ghost use Rattle.st_words.specs.Made.{Asked, StepMade};
 ghost use Rattle.st_words.specs.Steps.{CellLoad, CellStore, CellChange, Draw, Done, Number};
 ghost use Rattle.st_words.specs.declared.view.CellWord.TheVariants as words;
@@ -56,7 +56,7 @@ pub fn set_owner<B: Board, N: NamesView>(board: &mut B, w: u32, cell: u32, owner
 /// The owner of a cell that is named.
 pub fn owner<B: Board, N: NamesView>(board: &mut B, w: u32, cell: u32) -> Owner
     requires may { Asked B.view B.serves B.says B.forward B.moves N.after board.old w (CellLoad cell words.Owner) }
-    ensures made { (found : ℕ) × StepMade B.view B.serves B.says B.did N.after board.old w (CellLoad cell words.Owner) (Number found) board.new × ((owner : Owner) → FitsWord owner → found ≡ owner_word owner → result ≡ owner) }
+    ensures made { (found : ℕ) × StepMade B.view B.serves B.says B.did N.after board.old w (CellLoad cell words.Owner) (Number found) board.new × ((owner : Owner) → FitsWord owner → found ≡ owner_word owner → result ≡ owner) × (result.counter ≡ is_counter found) }
 {
     owner_in(board.cell_load::<N>(w, cell, CellWord::Owner))
 }

@@ -1,6 +1,6 @@
 //! The words of cells as numbers.
 ghost use Rattle.std.specs.Prelude.{◌≡◌, ◌<◌, ◌^◌};
-ghost use Rattle.st_words.specs.Encodings.{count_in, head_in, counter_word, count_after};
+ghost use Rattle.st_words.specs.Encodings.{is_counter, count_in, head_in, counter_word, count_after};
 ghost use Rattle.st_cells.specs.Cells.{owner_word, FitsWord};
 ghost use Rattle.st_cells.specs.declared.found.Owner.{Owner};
 
@@ -19,7 +19,7 @@ pub(crate) fn owner_word(owner: Owner) -> u64
 
 /// The owner of a cell by its Owner word.
 pub(crate) fn owner_in(word: u64) -> Owner
-    ensures { (owner : Owner) → FitsWord owner → word ≡ owner_word owner → result ≡ owner }
+    ensures { ((owner : Owner) → FitsWord owner → word ≡ owner_word owner → result ≡ owner) × (result.counter ≡ is_counter word) }
 {
     let rest = word.saturating_sub(1);
     Owner {
