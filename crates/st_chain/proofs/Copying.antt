@@ -121,10 +121,11 @@ module _ {Board : Type 0} (made : Step → Answer → Board → Type 0) (old new
         let is_next : over held m1 ≡ next = cc in
         inl (stays, subst (λ (k : State). RunsOn (over held k)) (sym same) (subst RunsOn (sym is_next) runs))
     by_move next (Reads q go) quiet e runs (ends, (n, was_made, same)) =
-        let is_next = (held_some (is_held held q) _ next e).1 in
+        let (there, is_next) = held_some (is_held held q) _ next e in
         inr (
           q,
           n,
+          there,
           was_made,
           λ told.
               let value : word_in held q ≡ n = ap number_or told in
@@ -137,7 +138,7 @@ module _ {Board : Type 0} (made : Step → Answer → Board → Type 0) (old new
 
   loads_so : (held : List (Option ℕ)) (A B : Type 0) → (A → B) → Loads made old held new A → Loads made old held new B
   loads_so held A B so (inl (stays, goes)) = inl (stays, so goes)
-  loads_so held A B so (inr (q, n, was_made, goes)) = inr (q, n, was_made, λ told. so (goes told))
+  loads_so held A B so (inr (q, n, there, was_made, goes)) = inr (q, n, there, was_made, λ told. so (goes told))
 
   pub copied_on : (image : Image) (d : Data) → Stepped made old m image d end m' new → Copied made old image d m m' new
   copied_on image d stepped p held f function left last code runs =

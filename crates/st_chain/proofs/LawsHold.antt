@@ -34,8 +34,8 @@ pub restarts : Restarts
 restarts c m has = restarting.restarts c m has
 
 pub restart_stands : RestartStands
-restart_stands p d c cargo names held m accepted has begun more all (inl root) = absurd (begun root.wait)
-restart_stands p d c cargo names held m accepted has begun more all (inr (walks, can)) =
+restart_stands p d c cargo names held m accepted has begun more all (inl root, open') = absurd (begun root.wait)
+restart_stands p d c cargo names held m accepted has begun more all (inr (walks, can), open') =
     let is = restarting.restarts c m has in
     let saved = is.saved in
     let stands = restarting.stands_same cargo.names names more p cargo.words held c.wait c.pc c.fp _ _ cargo.carried.known.thread cargo.frames accepted all saved walks in

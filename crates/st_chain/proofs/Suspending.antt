@@ -206,6 +206,7 @@ module _ (image : Image) (t : Taking) (code : IsCodeOf Postprocessed t.p image) 
         is_note = refl;
         is_cell = refl;
         is_wait = can.is_wait;
+        at_place = can.at_place;
         stands = over_kept t.p code.accepted t.names t.held t.taken.note.cell t.below t.below_frames wait (place_in m) (register m registers.S0) (value_in m) (saved_value (saved_in m)) t.taken.thread t.frames (saved_same m can.machine.has_registers) can.stands;
         thread = notes_length t.below;
         acts = t.taken.thread.activations;
@@ -244,7 +245,7 @@ module _ (image : Image) (t : Taking) (code : IsCodeOf Postprocessed t.p image) 
     went_on walk m' m s n is goes g =
         loads_map made old new t.held _ _
         (λ (at : At (counted walk.stage) m' g.acts g.fs n).
-        record { top = g.top; ends = g.ends; machine = g.machine; chain = g.chain; is_chain = g.is_chain; is_note = g.is_note; is_cell = g.is_cell; is_wait = g.is_wait; stands = g.stands; thread = g.thread; acts = g.acts; fs = g.fs; at = at; read = g.read; exports = g.exports })
+        record { top = g.top; ends = g.ends; machine = g.machine; chain = g.chain; is_chain = g.is_chain; is_note = g.is_note; is_cell = g.is_cell; is_wait = g.is_wait; at_place = g.at_place; stands = g.stands; thread = g.thread; acts = g.acts; fs = g.fs; at = at; read = g.read; exports = g.exports })
         (copied_by walk.stage walk.machine m' g.acts g.fs n is goes g.at)
 
   -- ---- a frame
@@ -272,6 +273,7 @@ module _ (image : Image) (t : Taking) (code : IsCodeOf Postprocessed t.p image) 
               is_note = g.is_note;
               is_cell = g.is_cell;
               is_wait = g.is_wait;
+              at_place = g.at_place;
               stands = g.stands;
               thread = g.thread;
               acts = older;
@@ -541,6 +543,12 @@ without_walk t wait notes notes' o m s n same is g = subst (λ (xs : List Note).
 -- there is a top thread
 pub some_notes : (t : Taking) (notes : List Note) → IsTop t notes → 0 < length notes
 some_notes t notes top = let all = ap length (top_notes t notes top) in let long = length-append (notes_of t.below) (t.taken.note ∷ []) in omega (arith, all, long)
+
+-- the chain's place is the one where the suspension began
+pub chain_place : (t : Taking) (notes : List Note) (walk : Walk) (chain : Chain) (m : State) (s : Exports) (n : ℕ) → walk.chain ≡ Some chain → Suspending t notes walk m s n → chain.pc ≡ t.place
+chain_place t notes walk chain m s n has g =
+    let same : chain ≡ g.chain = cc (g.is_chain, has) in
+    ap (λ (c : Chain). c.pc) same ∙ g.at_place
 
 pub has_chain : (t : Taking) (notes : List Note) (walk : Walk) (m : State) (s : Exports) (n : ℕ) → Suspending t notes walk m s n → is_some walk.chain ≡ true
 has_chain t notes walk m s n g = ap is_some g.is_chain

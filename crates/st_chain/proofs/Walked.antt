@@ -55,7 +55,7 @@ use Rattle.st_chain.proofs.LawsHold.{copies_give}
 module _ {Board : Type 0} (made : Step → Answer → Board → Type 0) (old new : Board) where
   pub loads_map : (held : List (Option ℕ)) (A B : Type 0) → (A → B) → Loads made old held new A → Loads made old held new B
   loads_map held A B so (inl (stays, goes)) = inl (stays, so goes)
-  loads_map held A B so (inr (q, n, was_made, goes)) = inr (q, n, was_made, λ told. so (goes told))
+  loads_map held A B so (inr (q, n, there, was_made, goes)) = inr (q, n, there, was_made, λ told. so (goes told))
 
 -- ---- the third jump of a fork
 

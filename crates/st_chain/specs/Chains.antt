@@ -1,7 +1,8 @@
 -- Chains: a thread that doesn't run, by its place, its newest frame and s1 to s11, over the words that go with it. Read Walks, which says that a
 -- chain stands for the thread that goes with it: the root that hasn't begun (IsUnbegun), or a thread with frames. StandsFor says of any place, frame
--- pointer and registers what Walks says of those of a chain; its parts are words_ahead, WaitsFor and KeepsFile. CanGoOn says of the thread that it hasn't stopped.
-use Rattle.std.specs.Prelude.{◌≡◌, ◌⊎◌, ℕ, ◌-◌, ◌≤◌, ◌==◌, true, List, [], ◌∷◌, length, Option, Some, None, slice_index, slice_index_or, if◌then◌else◌}
+-- pointer and registers what Walks says of those of a chain; its parts are words_ahead, WaitsFor and KeepsFile. CanGoOn says of the thread that it hasn't stopped, and HasBegun whether its
+-- next item is begun.
+use Rattle.std.specs.Prelude.{◌≡◌, ◌⊎◌, ℕ, ◌-◌, ◌≤◌, ◌==◌, Bool, true, false, List, [], ◌∷◌, length, Option, Some, None, slice_index, slice_index_or, if◌then◌else◌}
 use Rattle.st_base.specs.declared.chain.Chain.{Chain}
 use Rattle.st_base.specs.declared.chain.Frame.{Frame}
 use Rattle.st_base.specs.declared.chain.Waiting.{Waiting}
@@ -84,8 +85,17 @@ CanGoOn p waits.Ready thread = thread.standing ≡ Going
 CanGoOn p waits.Trapped thread = Prim.Unit
 CanGoOn p waits.Start thread = ⊥
 
--- a chain stands for the thread that goes with it, which can go on where it waits
+-- whether its next item is begun: that at which it waits is, and behind a fork or at the start none is
+abbrev pub HasBegun : Waiting → Bool → Type 0
+HasBegun (waits.Touch cell) begun = begun ≡ true
+HasBegun (waits.Join cell least) begun = begun ≡ true
+HasBegun waits.Ready begun = begun ≡ false
+HasBegun waits.Trapped begun = Prim.Unit
+HasBegun waits.Start begun = begun ≡ false
+
+-- a chain stands for the thread that goes with it, which can go on where it waits; and whether the thread's next item is begun is as it has to be there
 abbrev pub Walks : Program → Data → Chain → Cargo → Type 0
 Walks p d chain cargo =
-    IsUnbegun p d chain cargo.carried.known.thread cargo.frames
-    ⊎ (StandsFor p cargo.names cargo.words chain.wait chain.pc chain.fp (saved_value chain.saved) cargo.carried.known.thread cargo.frames × CanGoOn p chain.wait cargo.carried.known.thread)
+    (IsUnbegun p d chain cargo.carried.known.thread cargo.frames
+    ⊎ (StandsFor p cargo.names cargo.words chain.wait chain.pc chain.fp (saved_value chain.saved) cargo.carried.known.thread cargo.frames × CanGoOn p chain.wait cargo.carried.known.thread))
+    × HasBegun chain.wait cargo.carried.known.begun

@@ -37,9 +37,9 @@ pub record MayCopy (asks : Step → Type 0) (image : Image) (d : Data) (m : Stat
 
 -- which step of the board was made with which answer is told by `made`
 module _ {Board : Type 0} (made : Step → Answer → Board → Type 0) (old : Board) where
-  -- no step is made, and it goes; or a load, and it goes if that told the word that is held there
+  -- no step is made, and it goes; or a load of a word that is held, and it goes if that told this word
   abbrev pub Loads : List (Option ℕ) → Board → Type 0 → Type 0
-  Loads held new goes = ((new ≡ old) × goes) ⊎ ((q : ℕ) × (n : ℕ) × made (StackLoad q) (Number n) new × (kept held q ≡ Some n → goes))
+  Loads held new goes = ((new ≡ old) × goes) ⊎ ((q : ℕ) × (n : ℕ) × (is_held held q ≡ true) × made (StackLoad q) (Number n) new × (kept held q ≡ Some n → goes))
 
   -- wherever the machine led by a copy, it still does
   abbrev pub Copied : Image → Data → State → State → Board → Type 0

@@ -42,7 +42,8 @@ use Rattle.st_chain.specs.Walking.{IsAt, steps_of}
 -- ---- what a taking is of
 
 -- the worker's threads, the newest first, each with its frames: those above the one that is taken, that one, and those below it; the names and words
--- that the worker has, the frames of its stack that are exported once the thread is taken, and what the thread waits for then
+-- that the worker has, the frames of its stack that are exported once the thread is taken, what the thread waits for then, and the place where it stands
+-- when its suspension begins, for which a giving has no use
 pub record Taking : Type 0 where
   pub p : Program
   pub d : Data
@@ -56,6 +57,7 @@ pub record Taking : Type 0 where
   pub below_frames : List (List Frame)
   pub exported : List Frame
   pub wait : Waiting
+  pub place : ℕ
 
 abbrev pub threads_of : Taking → List Known
 threads_of t = t.above ++ t.taken ∷ t.below
@@ -135,10 +137,11 @@ pub record IsTop (t : Taking) (notes : List Note) : Type 0 where
   pub notes_are : notes ≡ notes_of (threads_of t)
   pub apart : AllApart (joined (frames_of t))
 
--- the first step may be made: the threads stand on the machine, the top one of which waits so, and so many steps are to come
+-- the first step may be made: the threads stand on the machine, the top one at its place, where it waits so, and so many steps are to come
 pub record CanSuspend (t : Taking) (notes : List Note) (m : State) (s : Exports) (wait : Waiting) (n : ℕ) : Type 0 where
   pub top : IsTop t notes
   pub is_wait : wait ≡ t.wait
+  pub at_place : place_in m ≡ t.place
   pub ends : Ends
   pub machine : IsOn ends (over t.held m)
   pub whole : m.half ≡ None
@@ -146,7 +149,7 @@ pub record CanSuspend (t : Taking) (notes : List Note) (m : State) (s : Exports)
   pub exports : WillExport s t.frames t.exported
   pub steps : n ≡ suc (steps_of t.p t.taken.thread.activations)
 
--- the chain stands for the thread over what lies below it, a walk is at some of its frames, and so many steps are to come
+-- the chain stands at the place for the thread over what lies below it, a walk is at some of its frames, and so many steps are to come
 pub record Suspending (t : Taking) (notes : List Note) (walk : Walk) (m : State) (s : Exports) (n : ℕ) : Type 0 where
   pub top : IsTop t notes
   pub ends : Ends
@@ -156,6 +159,7 @@ pub record Suspending (t : Taking) (notes : List Note) (walk : Walk) (m : State)
   pub is_note : chain.note ≡ t.taken.note
   pub is_cell : chain.cell ≡ t.taken.note.cell
   pub is_wait : chain.wait ≡ t.wait
+  pub at_place : chain.pc ≡ t.place
   pub stands : StandsOver t.p t.names t.held (beneath t t.taken.note.cell t.below t.below_frames) chain.wait chain.pc chain.fp (saved_value chain.saved) t.taken.thread t.frames
   pub thread : walk.thread ≡ length t.below
   pub acts : List Activation
@@ -189,11 +193,11 @@ module _ {Board : Type 0} (made : Step → Answer → Board → Type 0) (old : B
   Cuts t [] new so = (new ≡ old) × so t.held
   Cuts t (u ∷ us) new so = made (StackStore (bottom_word t.frames) 0x30) Done new × so (slice_set t.held (bottom_word t.frames) (Some 0x30))
 
-  -- what a step of suspending comes to, wherever the state before it led to
+  -- what a step of suspending comes to, wherever the state before it led to. The chain's place is the one where its suspension began
   abbrev pub SuspendStep : Taking → ℕ → List Note → List Note → Option Walk → State → State → Exports → Moved → Board → Type 0
   SuspendStep t n notes notes' walk' m m' s' More new = (notes' ≡ notes) × (m' ≡ m) × ((walk : Walk) × (walk' ≡ Some walk) × Loads made old t.held new (Suspending t notes walk m s' n))
   SuspendStep t n notes notes' walk' m m' s' (moved.Done chain) new =
-      (notes' ≡ notes_of t.below) × (walk' ≡ None) × Cuts t t.below new (λ held. IsTaken t held chain s' × NextGoesOn t held t.below t.below_frames m m')
+      (notes' ≡ notes_of t.below) × (walk' ≡ None) × (chain.pc ≡ t.place) × Cuts t t.below new (λ held. IsTaken t held chain s' × NextGoesOn t held t.below t.below_frames m m')
 
 -- ---- the bottom thread is given
 

@@ -8,6 +8,8 @@ ghost use Rattle.st_step.specs.Runs.{AreValues};
 ghost use Rattle.st_chain.specs.Logical.{IsPopped, restarted, with_values};
 ghost use Rattle.st_chain.specs.Forks.{AreRising};
 ghost use Rattle.st_chain.specs.Places.{first_walk, first_place, whole_walk, gone_below, gone_to_bottom};
+ghost use Rattle.std.specs.List.{Contains};
+ghost use Rattle.st_base.specs.declared.chain.Frame.{Frame};
 ghost use Rattle.st_base.specs.declared.chain.Note.{Note};
 ghost use Rattle.st_chain.specs.Taking.{Taking, Suspends, SuspendStep, MaySuspend, Gives, GiveStep, MayGive, place_in};
 
@@ -113,9 +115,10 @@ impl Logical {
     ///
     /// The first step begins a walk over the thread's frames, and each further one makes at most one step of the board; the steps that are left
     /// are one fewer behind each. A step that isn't the last answers `More`. The last one answers the thread's chain: that has the thread's note
-    /// and cell and the wait, and stands for it with nothing below it; the thread's frames on this stack are exported, and the thread's note is
-    /// taken out. Where a thread lies below, the return word of the oldest frame of the one that is taken is set to the entry st_end, which is the
-    /// one word that is written, and the machine goes on with the thread below behind its fork; else the machine is as it was. No memory is taken.
+    /// and cell and the wait, its place is the one where the thread stood at the first step, and it stands for the thread with nothing below it;
+    /// the thread's frames on this stack are exported, and the thread's note is taken out. Where a thread lies below, the return word of the oldest
+    /// frame of the one that is taken is set to the entry st_end, which is the one word that is written, and the machine goes on with the thread
+    /// below behind its fork; else the machine is as it was. No memory is taken.
     #[tactic(none)]
     pub fn suspend_step<B: Board, N: NamesView>(
         &mut self,
@@ -131,6 +134,7 @@ impl Logical {
         ensures values { AreValues m.old → AreValues m.new }
         ensures room { self.new.room ≡ self.old.room }
         ensures ends { (s.new.lo ≡ s.old.lo) × (s.new.hi ≡ s.old.hi) }
+        ensures stays { (f : Frame) → Contains s.old.exported f → Contains s.new.exported f }
     {
         let Some(mut walk) = self.walk.take() else {
             self.walk = Some(first_walk(self.notes.as_slice(), m, wait));
@@ -185,6 +189,7 @@ impl Logical {
         ensures step { (t : Taking) (n : ℕ) → IsCodeOf Postprocessed t.p image.now → t.d ≡ data_of image.now.rodata [] → Gives t self.old.notes self.old.open m.now s.old (suc n) → GiveStep (λ x a b. StepMade B.view B.serves B.says B.did N.after board.old w x a b) board.old t n self.old.notes self.new.notes self.new.open m.now s.new result board.new }
         ensures room { self.new.room ≡ self.old.room }
         ensures ends { (s.new.lo ≡ s.old.lo) × (s.new.hi ≡ s.old.hi) }
+        ensures stays { (f : Frame) → Contains s.old.exported f → Contains s.new.exported f }
     {
         let Some(mut walk) = self.walk.take() else {
             self.walk = Some(whole_walk(self.notes.as_slice(), m, image));

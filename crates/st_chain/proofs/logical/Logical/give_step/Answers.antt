@@ -75,11 +75,17 @@ returns-in_default-clause-room g c = ap (λ (l : Threads). l.room) c.self.view_i
 pub returns-in_default-clause-ends : goal.returns-in_default-clause-ends
 returns-in_default-clause-ends g c = (refl, refl)
 
+pub returns-in_default-clause-stays : goal.returns-in_default-clause-stays
+returns-in_default-clause-stays g c f there = there
+
 pub returns-in-Copy-clause-room : goal.returns-in-Copy-clause-room
 returns-in-Copy-clause-room g c = ap (λ (l : Threads). l.room) c.self.view_is
 
 pub returns-in-Copy-clause-ends : goal.returns-in-Copy-clause-ends
 returns-in-Copy-clause-ends g c = (refl, refl)
+
+pub returns-in-Copy-clause-stays : goal.returns-in-Copy-clause-stays
+returns-in-Copy-clause-stays g c f there = there
 
 pub returns-in-Frame-clause-room : goal.returns-in-Frame-clause-room
 returns-in-Frame-clause-room g c = ap (λ (l : Threads). l.room) c.self.view_is
@@ -90,17 +96,26 @@ returns-in-Fork-clause-room g c = ap (λ (l : Threads). l.room) c.self.view_is
 pub returns-in-Fork-clause-ends : goal.returns-in-Fork-clause-ends
 returns-in-Fork-clause-ends g c = (refl, refl)
 
+pub returns-in-Fork-clause-stays : goal.returns-in-Fork-clause-stays
+returns-in-Fork-clause-stays g c f there = there
+
 pub returns-in-Fork-2-clause-room : goal.returns-in-Fork-2-clause-room
 returns-in-Fork-2-clause-room g c = ap (λ (l : Threads). l.room) c.self.view_is
 
 pub returns-in-Fork-2-clause-ends : goal.returns-in-Fork-2-clause-ends
 returns-in-Fork-2-clause-ends g c = (refl, refl)
 
+pub returns-in-Fork-2-clause-stays : goal.returns-in-Fork-2-clause-stays
+returns-in-Fork-2-clause-stays g c f there = there
+
 pub returns-in-End-clause-room : goal.returns-in-End-clause-room
 returns-in-End-clause-room g c = ap (λ (l : Threads). l.room) c.self.view_is
 
 pub returns-in-End-clause-ends : goal.returns-in-End-clause-ends
 returns-in-End-clause-ends g c = (refl, refl)
+
+pub returns-in-End-clause-stays : goal.returns-in-End-clause-stays
+returns-in-End-clause-stays g c f there = there
 
 pub place-requires : goal.place-requires
 place-requires g c = let may = c.requires.may in forks_rise may.t.p c.args.image.now may.code
@@ -159,6 +174,20 @@ returns-in-Frame-clause-ends g c =
     let b = giving.begins c.args.image.now t code notes c.in-Some.walk c.args.m.now c.args.s.now n (sym c.place.ensures ∙ c.in-Frame.is) here in
     let joins = c.begin.ensures.exports b.row b.found in
     (joins.lo, joins.hi)
+
+pub returns-in-Frame-clause-stays : goal.returns-in-Frame-clause-stays
+returns-in-Frame-clause-stays g c f there =
+    let may = c.requires.may in
+    let t = may.t in
+    let code = may.code in
+    let n = may.n in
+    let gives = may.gives in
+    let notes = c.args.self.now.notes in
+    let open_is : c.args.self.now.open ≡ Some c.in-Some.walk = sym (ap (λ (l : Threads). l.open) c.self.view_is) ∙ sym c.take.ensures.value ∙ c.in-Some.is in
+    let here = giving.with_walk t notes c.args.self.now.open c.args.m.now c.args.s.now (suc n) c.in-Some.walk open_is gives in
+    let b = giving.begins c.args.image.now t code notes c.in-Some.walk c.args.m.now c.args.s.now n (sym c.place.ensures ∙ c.in-Frame.is) here in
+    let joins = c.begin.ensures.exports b.row b.found in
+    joins.stay f there
 
 pub returns-in-Frame-clause-step : goal.returns-in-Frame-clause-step
 returns-in-Frame-clause-step g c t n code data_is gives =

@@ -47,6 +47,9 @@ returns-in_default-clause-room g c = ap (λ (l : Threads). l.room) c.self.view_i
 pub returns-in_default-clause-ends : goal.returns-in_default-clause-ends
 returns-in_default-clause-ends g c = (refl, refl)
 
+pub returns-in_default-clause-stays : goal.returns-in_default-clause-stays
+returns-in_default-clause-stays g c f there = there
+
 pub place-requires : goal.place-requires
 place-requires g c = let may = c.requires.may in forks_rise may.t.p c.args.image.now may.code
 
@@ -150,6 +153,9 @@ returns-in-Copy-clause-room g c = ap (λ (l : Threads). l.room) c.self.view_is
 pub returns-in-Copy-clause-ends : goal.returns-in-Copy-clause-ends
 returns-in-Copy-clause-ends g c = (refl, refl)
 
+pub returns-in-Copy-clause-stays : goal.returns-in-Copy-clause-stays
+returns-in-Copy-clause-stays g c f there = there
+
 pub returns-in-Frame-clause-step : goal.returns-in-Frame-clause-step
 returns-in-Frame-clause-step g c t n code data_is suspends =
     let notes = c.args.self.now.notes in
@@ -173,6 +179,16 @@ returns-in-Frame-clause-ends g c =
     let joins = c.begin.ensures.exports b.row b.found in
     (joins.lo, joins.hi)
 
+pub returns-in-Frame-clause-stays : goal.returns-in-Frame-clause-stays
+returns-in-Frame-clause-stays g c f there =
+    let may = c.requires.may in
+    let notes = c.args.self.now.notes in
+    let open_is : c.args.self.now.open ≡ Some c.in-Some.walk = sym (ap (λ (l : Threads). l.open) c.self.view_is) ∙ sym c.take.ensures.value ∙ c.in-Some.is in
+    let here = suspending.with_walk may.t c.args.wait notes notes c.args.self.now.open c.in-Some.walk c.args.m.now c.args.s.now (suc may.n) refl open_is may.suspends in
+    let b = suspending.begins c.args.image.now may.t may.code notes c.in-Some.walk c.args.m.now c.args.s.now may.n (sym c.place.ensures ∙ c.in-Frame.is) here in
+    let joins = c.begin.ensures.exports b.row b.found in
+    joins.stay f there
+
 pub returns-in-Fork-clause-step : goal.returns-in-Fork-clause-step
 returns-in-Fork-clause-step g c t n code data_is suspends =
     let notes = c.args.self.now.notes in
@@ -186,6 +202,7 @@ returns-in-Fork-clause-step g c t n code data_is suspends =
     let machine : c.put_chain.new.m ≡ restarted (chain_at (downward c.in-Some.walk.machine c.in-Fork.handle c.taken-chain.result.cell) (c.in-Some.walk.machine.pc + 4) c.taken-chain.result.note waits.Ready) c.args.m.now = c.put_chain.ensures.machine ∙ ap (λ (x : Chain). restarted x c.args.m.now) next in (
       left,
       c.pop-top.ensures.stays ∙ c.take.ensures.after,
+      suspending.chain_place t notes c.in-Some.walk c.taken-chain.result c.args.m.now c.args.s.now (suc n) c.taken-chain.ensures here,
       subst (λ (m : State). Cuts (λ x a b. StepMade g.B.Board.view g.B.Board.serves g.B.Board.says g.B.Board.did g.N.NamesView.after c.args.board.now c.args.w x a b) c.args.board.now t t.below c.cut.new.board (λ held. IsTaken t held c.taken-chain.result c.args.s.now × NextGoesOn t held t.below t.below_frames c.args.m.now m)) (sym machine)
           (suspending.forked c.args.image.now t code notes (λ x a b. StepMade g.B.Board.view g.B.Board.serves g.B.Board.says g.B.Board.did g.N.NamesView.after c.args.board.now c.args.w x a b) c.args.board.now c.cut.new.board c.in-Some.walk c.taken-chain.result c.in-Fork.handle c.taken-chain.result.note waits.Ready c.args.m.now c.args.s.now (suc n) (sym c.place.ensures ∙ c.in-Fork.is) c.taken-chain.ensures c.cut.ensures.made here),
     )
@@ -196,6 +213,9 @@ returns-in-Fork-clause-room g c = c.pop-top.ensures.room ∙ ap (λ (l : Threads
 pub returns-in-Fork-clause-ends : goal.returns-in-Fork-clause-ends
 returns-in-Fork-clause-ends g c = (refl, refl)
 
+pub returns-in-Fork-clause-stays : goal.returns-in-Fork-clause-stays
+returns-in-Fork-clause-stays g c f there = there
+
 pub returns-in-End-clause-step : goal.returns-in-End-clause-step
 returns-in-End-clause-step g c t n code data_is suspends =
     let notes = c.args.self.now.notes in
@@ -205,6 +225,7 @@ returns-in-End-clause-step g c t n code data_is suspends =
     let left = suspending.left_notes t c.self.inside.notes.items c.pop-top-in-End.new.self.notes c.pop-top-in-End.result (suspending.top_of t notes c.self.inside.notes.items (sym same) here.top) c.pop-top-in-End.ensures.popped in (
       left,
       c.pop-top-in-End.ensures.stays ∙ c.take.ensures.after,
+      suspending.chain_place t notes c.in-Some.walk c.taken-chain-in-End.result c.args.m.now c.args.s.now (suc n) c.taken-chain-in-End.ensures here,
       suspending.ended c.args.image.now t code notes (λ x a b. StepMade g.B.Board.view g.B.Board.serves g.B.Board.says g.B.Board.did g.N.NamesView.after c.args.board.now c.args.w x a b) c.args.board.now c.in-Some.walk c.taken-chain-in-End.result c.args.m.now c.args.s.now (suc n) (sym c.place.ensures ∙ c.in-End.is) c.taken-chain-in-End.ensures here,
     )
 
@@ -213,6 +234,9 @@ returns-in-End-clause-room g c = c.pop-top-in-End.ensures.room ∙ ap (λ (l : T
 
 pub returns-in-End-clause-ends : goal.returns-in-End-clause-ends
 returns-in-End-clause-ends g c = (refl, refl)
+
+pub returns-in-End-clause-stays : goal.returns-in-End-clause-stays
+returns-in-End-clause-stays g c f there = there
 
 pub returns-in_default-clause-values : goal.returns-in_default-clause-values
 returns-in_default-clause-values g c values = values
