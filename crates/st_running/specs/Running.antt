@@ -1,6 +1,6 @@
 -- What the next item of a worker's top thread does on its machine. Read ItemDoes: it goes on to the next item of the thread, or of its caller (GoesOn); it traps
 -- (Traps), or its frame would come below the stack's low end (Overflows); it calls an entry of the runtime (Calls); or it ends the thread (EndsThread). All the machine comes
--- to is told over words and names that stand still, as Leads of st_items. ItemsDo is the law.
+-- to is told over words and names that stand still, as Leads of st_items, or Makes where it is one instruction. ItemsDo is the law.
 use Rattle.std.specs.Prelude.{◌≡◌, ◌≢◌, ◌⊎◌, ℕ, suc, ◌+◌, ◌-◌, ◌<◌, ◌≤◌, Bool, List, [], ◌∷◌, Some}
 use Rattle.st_base.specs.declared.chain.Frame.{Frame}
 use Rattle.st_base.specs.declared.thread.Activation.{Activation}
@@ -25,7 +25,7 @@ use Rattle.st_items.specs.Body.{Ends}
 use Rattle.st_items.specs.Code.{code_at, HasItem, IsSized}
 use Rattle.st_items.specs.Entered.{lowered}
 use Rattle.st_items.specs.Marked.{IsAway, NeedsNoWords, MarksAt}
-use Rattle.st_items.specs.Ways.{Leads}
+use Rattle.st_items.specs.Ways.{Makes, Leads}
 use Rattle.st_chain.specs.Seen.{joined}
 use Rattle.st_chain.specs.Taking.{AllApart}
 use Rattle.st_made.specs.Items.{next_move, went, EndsWith}
@@ -128,11 +128,11 @@ module _ (p : Program) (d : Data) (names : List (Held × ℕ)) (holds : ℕ → 
     pub there : code_at Postprocessed p t.state.pc ≡ Some ins
     pub stops : move_of d t.state ins ≡ Stops (StackFull function.frame_bytes)
 
-  -- the item isn't made yet: its first word leads to an entry of the runtime
+  -- the item isn't made yet: its first word, one instruction, calls an entry of the runtime
   pub record Calls : Type 0 where
     pub entry : ℕ
     pub u : Situation
-    pub leads : Leads Postprocessed p d holds t u
+    pub makes : Makes Postprocessed p d holds t u
     pub words : u.word ≡ t.word
     pub at : AtCall p names holds ends u k fs ks rest entry
 
