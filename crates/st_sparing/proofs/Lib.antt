@@ -1,0 +1,12 @@
+pub mod Places
+pub mod Stores
+pub mod Ways
+pub mod WholeFrames
+pub mod ReturnWords
+pub mod Words
+pub mod Straight
+pub mod Jumps
+pub mod StoreItems
+pub mod Epilogues
+pub mod Prologues
+pub mod AllItems
