@@ -104,9 +104,12 @@ module _ (p : Program) (d : Data) (u : View) (slot : Slot) (chain : Chain) (x : 
   }
 
   walks : Walks p d chain (with_frames x frames)
-  walks = ⊎_elim
-      (λ root. inl root)
-      (λ begun. inr (stands_same u.names u.names (λ name c in'. in') p u.held (with_frames x frames).words chain.wait chain.pc chain.fp (saved_value chain.saved) (saved_value chain.saved) x.known.thread frames accepted (all_same u x frames (unit_in slot) all_held) (λ r kept. refl) begun.0, begun.1)) has.stands
+  walks = (
+    ⊎_elim
+        (λ root. inl root)
+        (λ begun. inr (stands_same u.names u.names (λ name c in'. in') p u.held (with_frames x frames).words chain.wait chain.pc chain.fp (saved_value chain.saved) (saved_value chain.saved) x.known.thread frames accepted (all_same u x frames (unit_in slot) all_held) (λ r kept. refl) begun.0, begun.1)) has.stands,
+    has.begun,
+  )
 
   is_carried : IsCarried p d u slot chain x frames
   is_carried = record {

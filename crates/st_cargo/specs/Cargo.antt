@@ -24,7 +24,7 @@ use Rattle.st_words.specs.Steps.{home_of, return_place, IsLeased}
 use Rattle.st_words.specs.Views.{no_known}
 use Rattle.st_step.specs.Runs.{caller_word}
 use Rattle.st_chain.specs.Walk.{word_in}
-use Rattle.st_chain.specs.Chains.{IsUnbegun, StandsFor, CanGoOn, saved_value, Walks}
+use Rattle.st_chain.specs.Chains.{IsUnbegun, StandsFor, CanGoOn, HasBegun, saved_value, Walks}
 
 -- ---- frames
 
@@ -70,6 +70,7 @@ pub record HasFrames (p : Program) (d : Data) (u : View) (chain : Chain) (x : Ca
   pub cell : chain.note.cell ≡ chain.cell
   pub wait : x.wait ≡ chain.wait
   pub stands : IsUnbegun p d chain x.known.thread frames ⊎ (StandsFor p u.names u.held chain.wait chain.pc chain.fp (saved_value chain.saved) x.known.thread frames × CanGoOn p chain.wait x.known.thread)
+  pub begun : HasBegun chain.wait x.known.begun
   pub leased : (f : Frame) → Contains frames f → IsLeased u f
   pub own : (f : Frame) → Contains frames f → home_of u.each (return_place f) ≡ u.number → Contains u.exported f
   pub knows : (name : Held) → IsName name → ThreadHas x.known.thread name → (c : ℕ) × Contains u.names (name, c)
