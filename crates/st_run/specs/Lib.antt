@@ -2,6 +2,7 @@ pub mod Meanings
 pub mod Plans
 pub mod OfPlain
 pub mod Behind
+pub mod Looking
 pub mod Meant
 pub mod Rules
 pub mod Brought

@@ -11,5 +11,5 @@ is_meant p d limits = record {
   items = record { forks = λ t h. h; counts = λ t h. h; ends = λ t value h. h };
   met = λ u code h. h;
   made_ready = λ cargo chain h. h;
-  root = λ s e. inl (record { wait = refl; first = s; begins = e; root = refl; none = refl });
+  root = λ s e. (inl (record { wait = refl; first = s; begins = e; root = refl; none = refl }), refl);
 }

@@ -1,9 +1,13 @@
--- Numbers below n that are led to different numbers below m are at most m: few.
-use Rattle.std.proofs.Common.{◌≡◌, ◌≢◌, ℕ, zero, suc, ◌≤◌, ◌<◌, sym, ◌∙◌, arith}
+-- Numbers below n that are led to different numbers below m are at most m: few. So a list of numbers below m, each once, is at most as long as m (few_once), and shorter where a
+-- number below m isn't in it (fewer_once).
+use Rattle.std.proofs.Common.{◌≡◌, ◌≢◌, ⊎_elim, ℕ, zero, suc, ◌≤◌, ◌<◌, List, [], ◌∷◌, length, slice_index_or, refl, sym, ◌∙◌, ap, subst, arith}
+use Rattle.std.specs.List.{Contains}
 use mathlib.Core.Logic.{dite}
 use native.Mathlib.Decide.{ℕ_discrete}
+use Rattle.st_words.proofs.Lists.{contains_here, contains_later, contains_case}
 use Rattle.st_world.specs.Functions.{put}
 use Rattle.st_world.proofs.Functions.{put_here, put_other}
+use Rattle.st_seats.specs.Placing.{AreOnce}
 
 abbrev AreBelow : ℕ → ℕ → (ℕ → ℕ) → Type 0
 AreBelow n m f = (k : ℕ) → k < n → f k < m
@@ -51,3 +55,36 @@ pub few : (n m : ℕ) (f : ℕ → ℕ) → AreBelow n m f → AreApart n f → 
 few zero m f low apart = omega arith
 few (suc n) zero f low apart = let l = low n (omega arith) in let no : ⊥ = omega (arith, l) in absurd no
 few (suc n) (suc m) f low apart = let less = few n m (fewer n m f low apart) (fewer_low n m f low apart) (fewer_apart n m f low apart) in omega (arith, less)
+
+-- ---- lists of numbers
+
+abbrev number_at : List ℕ → ℕ → ℕ
+number_at ns k = slice_index_or ns k 0
+
+number_in : (ns : List ℕ) (k : ℕ) → k < length ns → Contains ns (number_at ns k)
+number_in [] k l = let no : ⊥ = omega (arith, l) in absurd no
+number_in (n ∷ ns) zero l = contains_here n ns
+number_in (n ∷ ns) (suc k) l = let within : suc k < suc (length ns) = l in contains_later (number_at ns k) n ns (number_in ns k (omega (arith, within)))
+
+numbers_apart : (ns : List ℕ) → AreOnce ns → AreApart (length ns) (number_at ns)
+numbers_apart [] once j k a b e = let no : ⊥ = omega (arith, a) in absurd no
+numbers_apart (n ∷ ns) once zero zero a b e = refl
+numbers_apart (n ∷ ns) once zero (suc k) a b e =
+    let within : suc k < suc (length ns) = b in
+    absurd (once.0 (subst (λ (c : ℕ). Contains ns c) (sym e) (number_in ns k (omega (arith, within)))))
+numbers_apart (n ∷ ns) once (suc j) zero a b e =
+    let within : suc j < suc (length ns) = a in
+    absurd (once.0 (subst (λ (c : ℕ). Contains ns c) e (number_in ns j (omega (arith, within)))))
+numbers_apart (n ∷ ns) once (suc j) (suc k) a b e =
+    let first : suc j < suc (length ns) = a in
+    let second : suc k < suc (length ns) = b in
+    ap (λ (i : ℕ). suc i) (numbers_apart ns once.1 j k (omega (arith, first)) (omega (arith, second)) e)
+
+pub few_once : (m : ℕ) (ns : List ℕ) → AreOnce ns → ((c : ℕ) → Contains ns c → c < m) → length ns ≤ m
+few_once m ns once low = few (length ns) m (number_at ns) (λ k l. low (number_at ns k) (number_in ns k l)) (numbers_apart ns once)
+
+pub fewer_once : (m c : ℕ) (ns : List ℕ) → AreOnce ns → ((d : ℕ) → Contains ns d → d < m) → c < m → (Contains ns c → ⊥) → length ns < m
+fewer_once m c ns once low l out =
+    let more = few_once m (c ∷ ns) (out, once) (λ d at. ⊎_elim (λ (e : c ≡ d). subst (λ (k : ℕ). k < m) e l) (λ (later : Contains ns d). low d later) (contains_case d c ns at)) in
+    let all : suc (length ns) ≤ m = more in
+    omega (arith, all)

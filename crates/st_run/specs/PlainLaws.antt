@@ -1,6 +1,7 @@
--- A board over vectors has the laws of a board for a program: plain_laws, by those of the rule, for any type whose values show words, cargoes and views of such a board.
+-- A board over vectors has the laws of a board for a program: plain_laws, by those of the rule, for any type whose values show words, cargoes and views of such a board; and a worker that looks
+-- at a word that it holds finds it (plain_looks), as the State word of a thread that is here isn't full (plain_unfilled).
 -- The proof stands here since the laws of an impl may name no proofs of its crate.
-use Rattle.std.proofs.Common.{◌≡◌, ◌≢◌, ℕ, ◌*◌, ◌/◌, ◌<◌, List, length, Some, refl, sym, ◌∙◌, ap, subst, arith, slice_set, length-set, get_or-set_other}
+use Rattle.std.proofs.Common.{◌≡◌, ◌≢◌, inl, ℕ, ◌*◌, ◌/◌, ◌<◌, List, length, Some, refl, sym, ◌∙◌, ap, subst, arith, slice_set, length-set, get_or-set_other}
 use Rattle.std.specs.List.{Contains}
 use Rattle.st_base.specs.declared.chain.Chain.{Chain}
 use Rattle.st_base.specs.declared.limits.Limits.{Limits}
@@ -11,8 +12,9 @@ use Rattle.st_words.specs.declared.view.Slot.TheVariants.{Cell, Mail}
 use Rattle.st_words.specs.declared.view.Cargo.{Cargo}
 use Rattle.st_words.specs.declared.view.View.{View}
 use Rattle.st_words.specs.declared.words.Words.{Words}
-use Rattle.st_words.specs.Encodings.{thread_owner}
-use Rattle.st_words.specs.Steps.{Step, StackStore, Mark, CellStore, CellChange, StopSet, RequestChange, SlotTake, SlotPut, Answer, Number, Took, Can}
+use Rattle.st_words.specs.Encodings.{thread_owner, full_word}
+use Rattle.st_words.specs.Steps.{Step, HasThread, CellLoad, StackStore, Mark, Look, CellStore, CellChange, StopSet, RequestChange, SlotTake, SlotPut, Answer, Done, Number, Looked, Took, Can}
+use Rattle.st_words.specs.Steps as steps
 use Rattle.st_words.specs.Views.{Does, IsFree}
 use Rattle.st_words.specs.Plain.{Cargoes, view_at, Exact, Left, words_after}
 use Rattle.st_words.specs.Sizes.{Sized}
@@ -36,6 +38,8 @@ use Rattle.st_rule.specs.Laws.{RuleLaws}
 use Rattle.st_run.specs.Meanings.{meaning}
 use Rattle.st_run.specs.OfPlain.{PlainIsFor, StaysSized}
 use Rattle.st_run.specs.Meant.{is_meant}
+use Rattle.st_run.specs.Looking.{Looks, Unfilled}
+use Rattle.st_seats.proofs.Told.{told_laws as seats_told}
 use Rattle.st_run.specs.Brought.{brought, left_brought, sets_brought}
 
 -- ---- no step changes how many words there are
@@ -210,3 +214,38 @@ module _ {Self : Type 0} (words : Self → Words) (cargoes : Self → Cargoes) (
     stays_on = λ b c e one two. record { workers = two.workers ∙ one.workers; cells = two.cells ∙ one.cells; stack = two.stack ∙ one.stack };
     stays_so = λ b w s a c left. left_counts (words b) (cargoes b) (views b) w s a (words c) (cargoes c) (views c) left;
   }
+
+  -- the word that is there is the one that the worker's view holds
+  pub plain_looks : Looks view serves forward moves says did is_for stays means (Made p d) (Event p d)
+  plain_looks b w u q n cargo m may said holds =
+      let g = goes b w u may.here may.serving may.made in
+      let f = finds each (words b) (cargoes b) (slice_set (views b) w u) w (Look q) (Looked n cargo) g.whole said in
+      f.0 ∙ ((g.rule.leases.views w).held q m (subst (λ (v : View). steps.kept v.held q ≡ Some m) (sym (here b w u may.serving)) holds)).2
+
+  -- a thread that is here has a future that isn't full
+  unfilled_state : (b : Self) (w : ℕ) (u : View) (c : ℕ) → is_for b → serves b w → Made p d (view b w) u → HasThread u c → (shown b w u).state c ≢ full_word
+  unfilled_state b w u c is l made thread =
+      let g = goes b w u is l made in
+      (seats_told.unfilled (shown b w u) g.rule.lists w c g.rule.places (inl (subst (λ (v : View). HasThread v c) (sym (here b w u l)) thread))).2
+
+  pub plain_unfilled : Unfilled view serves forward moves says did is_for stays means (Made p d) (Event p d)
+  plain_unfilled b w u (CellLoad c State) (Number n) may said =
+      let g = goes b w u may.here may.serving may.made in
+      let is = finds each (words b) (cargoes b) (slice_set (views b) w u) w (CellLoad c State) (Number n) g.whole said in
+      λ thread full. unfilled_state b w u c may.here may.serving may.made thread (sym is ∙ full)
+  plain_unfilled b w u (CellChange c old new) (Number n) may said =
+      let g = goes b w u may.here may.serving may.made in
+      let is = finds each (words b) (cargoes b) (slice_set (views b) w u) w (CellChange c old new) (Number n) g.whole said in
+      λ thread full. unfilled_state b w u c may.here may.serving may.made thread (sym is ∙ full)
+  plain_unfilled b w u (CellLoad c State) Done may said = tt
+  plain_unfilled b w u (CellLoad c State) (Looked n cargo) may said = tt
+  plain_unfilled b w u (CellLoad c State) (Took chain cargo) may said = tt
+  plain_unfilled b w u (CellLoad c Owner) a may said = tt
+  plain_unfilled b w u (CellLoad c Value) a may said = tt
+  plain_unfilled b w u (CellLoad c Next) a may said = tt
+  plain_unfilled b w u (CellLoad c Standing) a may said = tt
+  plain_unfilled b w u (CellLoad c Trap) a may said = tt
+  plain_unfilled b w u (CellChange c old new) Done may said = tt
+  plain_unfilled b w u (CellChange c old new) (Looked n cargo) may said = tt
+  plain_unfilled b w u (CellChange c old new) (Took chain cargo) may said = tt
+  plain_unfilled b w u s a may said = tt

@@ -4,7 +4,7 @@ ghost use Rattle.st_words.specs.Plain.{first_views};
 ghost use Rattle.st_model.specs.declared.ordinary.State.{State};
 ghost use Rattle.st_model.specs.Ordinary.{start};
 ghost use Rattle.st_run.specs.OfPlain.{PlainIsFor, StaysSized};
-ghost use Rattle.st_run.specs.PlainLaws.{plain_laws};
+ghost use Rattle.st_run.specs.PlainLaws.{plain_laws, plain_looks, plain_unfilled};
 ghost use Rattle.st_run.specs.PlainBehind.{plain_behind};
 ghost use Rattle.st_run.specs.Rules.{rules};
 
@@ -22,6 +22,10 @@ impl RunBoard for PlainBoard {
     ghost laws = { λ p d limits. plain_laws (λ b. b.words) (λ b. b.kept.cargoes) (λ b. b.kept.views) (λ b. b.sized) p d limits (rules p d limits) };
 
     ghost behind = { λ p d limits. plain_behind (λ b. b.words) (λ b. b.kept.cargoes) (λ b. b.kept.views) p d limits (rules p d limits) };
+
+    ghost unfilled = { λ p d limits. plain_unfilled (λ b. b.words) (λ b. b.kept.cargoes) (λ b. b.kept.views) (λ b. b.sized) p d limits (rules p d limits) };
+
+    ghost looks = { λ p d limits. plain_looks (λ b. b.words) (λ b. b.kept.cargoes) (λ b. b.kept.views) (λ b. b.sized) p d limits (rules p d limits) };
 }
 
 /// Opens the board over vectors for so many workers and the plan's program, which begins: the root's chain lies in its slot, and no worker has

@@ -16,6 +16,7 @@ ghost use Rattle.st_made.specs.Moves.{Made};
 ghost use Rattle.st_made.specs.Events.{Event};
 ghost use Rattle.st_chain.specs.Chains.{Walks};
 ghost use Rattle.st_run.specs.Behind.{Behind, NextDefined};
+ghost use Rattle.st_run.specs.Looking.{Looks, Unfilled};
 ghost use Rattle.st_run.specs.Meanings.{meaning};
 ghost use Rattle.st_run.specs.Plans.{no_program, no_data, least_limits};
 
@@ -31,6 +32,8 @@ use std::marker::Brand;
 /// - `laws`: for any program, input and limits, what holds of these with the members of the board. A view is brought forward by what the worker's
 ///   threads make (`Made` of st_made), and a step goes with an item of theirs, or none (`Event`).
 /// - `behind`: what it tells of a worker's threads: a heap that the heap-frame machine reaches has them, with what the worker has counted and seen.
+/// - `unfilled`: the State word of a thread that a worker has is found not full.
+/// - `looks`: a worker that looks at the return word of a frame which it has exported finds what it holds there, if it holds that word.
 pub trait RunBoard: Board {
     ghost is_for: { Program → Data → Limits → Self → Type 0 };
 
@@ -39,6 +42,10 @@ pub trait RunBoard: Board {
     ghost laws: { (p : Program) (d : Data) (limits : Limits) → RunLaws Self.view Self.serves Self.forward Self.moves Self.says Self.did (is_for p d limits) stays (meaning p d limits) (Made p d) (Event p d) };
 
     ghost behind: { (p : Program) (d : Data) (limits : Limits) → Behind Self.view Self.serves (is_for p d limits) (Made p d) p d };
+
+    ghost unfilled: { (p : Program) (d : Data) (limits : Limits) → Unfilled Self.view Self.serves Self.forward Self.moves Self.says Self.did (is_for p d limits) stays (meaning p d limits) (Made p d) (Event p d) };
+
+    ghost looks: { (p : Program) (d : Data) (limits : Limits) → Looks Self.view Self.serves Self.forward Self.moves Self.says Self.did (is_for p d limits) stays (meaning p d limits) (Made p d) (Event p d) };
 }
 
 /// The program that a board is for, with its input and the limits of the run, which a caller names for contracts alone.
