@@ -1,5 +1,7 @@
 -- What the phases of an answer do to a worker.
 use Rattle.std.specs.Prelude.{◌≡◌, ℕ, ◌+◌, ◌==◌, Bool, true, false, not, ◌&&◌, ◌||◌, nat_lt, List, [], ◌∷◌, length, Option, Some, None, is_some, if◌then◌else◌}
+use Rattle.std.specs.List.{Contains}
+use Rattle.st_base.specs.declared.chain.Frame.{Frame}
 use Rattle.st_base.specs.declared.chain.Note.{Note}
 use Rattle.st_base.specs.declared.image.ForkRow.{ForkRow}
 use Rattle.st_words.specs.Encodings.{asking}
@@ -47,3 +49,5 @@ pub record IsGiven (asker : ℕ) (moved : Moved) (x y : Automaton) : Type 0 wher
   pub room : y.threads.room ≡ x.threads.room
   pub lo : y.stack.lo ≡ x.stack.lo
   pub hi : y.stack.hi ≡ x.stack.hi
+  -- no exported frame is taken back
+  pub stay : (f : Frame) → Contains x.stack.exported f → Contains y.stack.exported f

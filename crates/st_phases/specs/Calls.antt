@@ -5,8 +5,8 @@ use Rattle.st_base.specs.declared.entry.Entry.TheVariants as entries
 use Rattle.st_base.specs.declared.reg.Reg.TheVariants as registers
 use Rattle.st_model.specs.Memory.{Data}
 use Rattle.st_words.specs.declared.view.CellWord.TheVariants as words
+use Rattle.st_words.specs.Encodings.{is_counter}
 use Rattle.st_words.specs.Steps.{Step, CellLoad, CellStore, Draw, RequestLoad, Answer, Done, Number}
-use Rattle.st_cells.specs.Cells.{FitsWord, owner_word}
 use Rattle.st_cells.specs.declared.found.Owner.{Owner}
 use Rattle.st_step.specs.declared.decoded.Decoded.{Decoded}
 use Rattle.st_step.specs.Moves.{register}
@@ -70,7 +70,7 @@ module _ {Board : Type 0} (made : Step → Answer → Board → Type 0) (old : B
   Ends x turn y new = made (value_step x) Done new × (y ≡ with_phase phases.Finding x) × (turn ≡ Ran points.Step)
 
   abbrev pub SeesKind : Automaton → Turn → Automaton → Board → Type 0
-  SeesKind x turn y new = (found : ℕ) × (owner : Owner) × made (owner_step x) (Number found) new × ((o : Owner) → FitsWord o → found ≡ owner_word o → owner ≡ o) × (y ≡ kind_seen owner.counter x) × (turn ≡ Ran points.Step)
+  SeesKind x turn y new = (found : ℕ) × (owner : Owner) × made (owner_step x) (Number found) new × (owner.counter ≡ is_counter found) × (y ≡ kind_seen owner.counter x) × (turn ≡ Ran points.Step)
 
   -- the own request word is read
   abbrev pub Polls : Automaton → Turn → Automaton → Board → Type 0

@@ -1,6 +1,8 @@
 -- What the phases of a thread that leaves do to a worker.
 use Rattle.std.specs.Prelude.{◌≡◌, ℕ, ◌-◌, ◌==◌, Bool, true, false, None, if◌then◌else◌}
+use Rattle.std.specs.List.{Contains}
 use Rattle.st_base.specs.declared.chain.Chain.{Chain}
+use Rattle.st_base.specs.declared.chain.Frame.{Frame}
 use Rattle.st_words.specs.Encodings.{waits_word, trapped}
 use Rattle.st_step.specs.Runs.{AreValues}
 use Rattle.st_chain.specs.declared.logical.Moved.{Moved}
@@ -24,6 +26,8 @@ pub record IsSuspended (leaving : Leaving) (moved : Moved) (x y : Automaton) : T
   pub room : y.threads.room ≡ x.threads.room
   pub lo : y.stack.lo ≡ x.stack.lo
   pub hi : y.stack.hi ≡ x.stack.hi
+  -- no exported frame is taken back
+  pub stay : (f : Frame) → Contains x.stack.exported f → Contains y.stack.exported f
   pub values : AreValues x.machine → AreValues y.machine
 
 -- ---- what is told of it

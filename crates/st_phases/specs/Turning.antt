@@ -35,7 +35,7 @@ use Rattle.st_phases.specs.declared.turn.Turn.TheVariants.{Ran}
 use Rattle.st_phases.specs.Automaton.{own_note, with_phase, wakes}
 use Rattle.st_phases.specs.Entries.{owner_of, named, begins_child, looked, got, added}
 use Rattle.st_phases.specs.Ending.{filled, ended_or_step, rest_of}
-use Rattle.st_phases.specs.Waking.{NeverEmpty, followed, raised, returned, readied, cell_of, MayPark, parked_word, parked, behind}
+use Rattle.st_phases.specs.Waking.{NeverEmpty, followed, raised, returned, settled, readied, cell_of, MayPark, parked_word, parked, behind}
 use Rattle.st_phases.specs.Leaving.{IsSuspended, item_place, standing_word, slotted}
 use Rattle.st_phases.specs.Polling.{heeded, over_or_step, IsTopFrame, RunsOn, IsShrunk}
 use Rattle.st_phases.specs.Answering.{GoesOnAnswered, IsAnswered, IsGiven}
@@ -74,6 +74,8 @@ module _ (asks : Step → Type 0) (says : Step → Answer → Type 0) (cargo : S
   MayPhase (phases.Raising waiter rest) = asks (ActiveAdd true)
   MayPhase (phases.Peeking waiter rest) = MayTake (slots.Cell waiter)
   MayPhase (phases.Returning chain rest) = MayPut (slots.Cell chain.cell) chain
+  MayPhase (phases.Owning settling) = asks (CellLoad (cell_of settling.wait) words.Owner)
+  MayPhase (phases.Weighing settling) = asks (CellLoad (cell_of settling.wait) words.State)
   MayPhase (phases.Readying settling) = (length x.ready.numbers < x.ready.room) × asks (CellStore settling.waiter words.Standing ready)
   MayPhase (phases.Linking settling) = asks (CellStore settling.waiter words.Next (head_in settling.seen))
   MayPhase (phases.Parking settling) = (settling.waiter < 65536) × MayPark settling.wait settling.seen × asks (CellChange (cell_of settling.wait) settling.seen (parked_word settling.wait settling.waiter settling.seen))
@@ -161,6 +163,8 @@ module _ {Board : Type 0} (made : Step → Answer → Board → Type 0) (shrinks
   PhaseDoes (phases.Raising waiter rest) = Found (ActiveAdd true) (λ found. raised waiter rest x)
   PhaseDoes (phases.Peeking waiter rest) = Takes (slots.Cell waiter) (λ chain. with_phase (phases.Returning chain rest) x)
   PhaseDoes (phases.Returning chain rest) = Puts (slots.Cell chain.cell) chain (returned chain rest x)
+  PhaseDoes (phases.Owning settling) = Found (CellLoad (cell_of settling.wait) words.Owner) (λ found. with_phase (phases.Weighing settling) x)
+  PhaseDoes (phases.Weighing settling) = Found (CellLoad (cell_of settling.wait) words.State) (λ found. settled (record settling { seen = found }) x)
   PhaseDoes (phases.Readying settling) = Made (CellStore settling.waiter words.Standing ready) (readied settling x)
   PhaseDoes (phases.Linking settling) = Made (CellStore settling.waiter words.Next (head_in settling.seen)) (with_phase (phases.Parking settling) x)
   PhaseDoes (phases.Parking settling) = Found (CellChange (cell_of settling.wait) settling.seen (parked_word settling.wait settling.waiter settling.seen)) (λ found. parked settling found x)

@@ -35,8 +35,9 @@ raised waiter rest x =
 abbrev pub settled : Settling → Automaton → Automaton
 settled settling x = with_phase (if is_over settling.wait settling.seen then phases.Readying settling else phases.Linking settling) x
 
+-- what a counter's waiter waits for is known: the Owner of that cell and its State are read before it is settled
 abbrev pub returned : Chain → Rest → Automaton → Automaton
-returned chain rest x = settled (record { waiter = chain.cell; wait = chain.wait; seen = rest.word; rest = Some rest }) x
+returned chain rest x = with_phase (phases.Owning (record { waiter = chain.cell; wait = chain.wait; seen = rest.word; rest = Some rest })) x
 
 -- the next one of the list, or what follows the call
 abbrev pub behind : Option Rest → Automaton → Automaton

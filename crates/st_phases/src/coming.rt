@@ -15,21 +15,11 @@ use crate::automaton::Automaton;
 use crate::entries::{END, RUNNING};
 use crate::phase::Phase;
 use crate::turn::{Point, RAN, Turn};
+use crate::waking::cell_of;
 use st_base::chain::{Chain, Waiting};
 use st_base::reg::Reg;
 use st_words::board::{Board, NamesView};
 use st_words::view::CellWord;
-
-/// The cell at which a thread waits; 0 for one that doesn't.
-fn cell_of(wait: Waiting) -> u32
-    ensures { result ≡ cell_of wait }
-{
-    match wait {
-        Waiting::Touch { cell } => cell,
-        Waiting::Join { cell, .. } => cell,
-        _ => 0,
-    }
-}
 
 impl Automaton {
     /// Where the chain is the root's first, `main` begins: it returns to st_end, with the length of the input in a0.

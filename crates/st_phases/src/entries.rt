@@ -1,9 +1,9 @@
 //! What the runtime does at the entries that a thread calls: forks, counters, touches, and joins.
 ghost use Rattle.std.specs.Prelude.{◌≡◌, ◌≢◌, ◌+◌, ◌%◌, ◌^◌, ◌<◌, ◌≤◌, ℕ, [], length};
-ghost use Rattle.st_cells.specs.Cells.{FitsWord, owner_word, counted_up};
+ghost use Rattle.st_cells.specs.Cells.{owner_word, counted_up};
 ghost use Rattle.st_cells.specs.declared.found.Owner.{Owner};
 ghost use Rattle.st_words.specs.Made.{Asked, StepMade};
-ghost use Rattle.st_words.specs.Encodings.{running, trap_number};
+ghost use Rattle.st_words.specs.Encodings.{is_counter, running, trap_number};
 ghost use Rattle.st_words.specs.Steps.{CellLoad, CellStore, CellChange, Draw, RequestLoad, Done, Number};
 ghost use Rattle.st_words.specs.declared.view.CellWord.TheVariants as words;
 ghost use Rattle.st_base.specs.declared.reg.Reg.TheVariants as registers;
@@ -156,7 +156,7 @@ impl Automaton {
     /// The Owner of the cell in a6 is loaded. The thread stops where the cell isn't of the kind that the entry wants.
     pub(crate) fn see_kind<B: Board, N: NamesView>(&mut self, board: &mut B) -> Turn
         requires may { Asked B.view B.serves B.says B.forward B.moves N.after board.old self.old.number (CellLoad (handle_in self.old.machine) words.Owner) }
-        ensures made { (found : ℕ) × (owner : Owner) × StepMade B.view B.serves B.says B.did N.after board.old self.old.number (CellLoad (handle_in self.old.machine) words.Owner) (Number found) board.new × ((o : Owner) → FitsWord o → found ≡ owner_word o → owner ≡ o) × (self.new ≡ kind_seen owner.counter self.old) }
+        ensures made { (found : ℕ) × (owner : Owner) × StepMade B.view B.serves B.says B.did N.after board.old self.old.number (CellLoad (handle_in self.old.machine) words.Owner) (Number found) board.new × (owner.counter ≡ is_counter found) × (self.new ≡ kind_seen owner.counter self.old) }
         ensures turn { result ≡ Ran points.Step }
     {
         let cell = self.handle();

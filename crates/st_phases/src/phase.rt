@@ -90,6 +90,10 @@ pub enum Phase {
     Peeking { waiter: u32, rest: Rest },
     /// and put back.
     Returning { chain: Chain, rest: Rest },
+    /// The Owner of the cell at which it waits is read,
+    Owning(Settling),
+    /// and its State.
+    Weighing(Settling),
     /// The wait of the waiter is over: its Standing becomes 3.
     Readying(Settling),
     /// It isn't: the waiter is linked,

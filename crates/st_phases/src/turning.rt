@@ -42,6 +42,8 @@ impl Automaton {
             Phase::Raising { waiter, rest } => self.raise::<B, N>(waiter, rest, board),
             Phase::Peeking { waiter, rest } => self.peek::<B, N>(waiter, rest, board),
             Phase::Returning { chain, rest } => self.put_back::<B, N>(chain, rest, board),
+            Phase::Owning(settling) => self.see_owner::<B, N>(settling, board),
+            Phase::Weighing(settling) => self.weigh::<B, N>(settling, board),
             Phase::Readying(settling) => self.make_ready::<B, N>(settling, board),
             Phase::Linking(settling) => self.link::<B, N>(settling, board),
             Phase::Parking(settling) => self.park::<B, N>(settling, board),

@@ -38,6 +38,17 @@ fn is_over(wait: Waiting, seen: u64) -> bool
     }
 }
 
+/// The cell at which a thread waits; 0 for one that doesn't.
+pub(crate) fn cell_of(wait: Waiting) -> u32
+    ensures { result ≡ cell_of wait }
+{
+    match wait {
+        Waiting::Touch { cell } => cell,
+        Waiting::Join { cell, .. } => cell,
+        _ => 0,
+    }
+}
+
 /// The waiter becomes the first one at the cell of its wait, if that cell's State is still `seen`.
 fn park<B: Board, N: NamesView>(
     board: &mut B,
@@ -147,12 +158,43 @@ impl Automaton {
         ensures turn { result ≡ Ran points.Step }
     {
         board.slot_put::<N>(self.number, Slot::Cell(chain.cell), chain);
-        self.settle(Settling {
+        self.phase = Phase::Owning(Settling {
             waiter: chain.cell,
             wait: chain.wait,
             seen: rest.word,
             rest: Some(rest),
         });
+        RAN
+    }
+
+    /// The Owner of the cell at which the waiter waits is loaded.
+    pub(crate) fn see_owner<B: Board, N: NamesView>(
+        &mut self,
+        settling: Settling,
+        board: &mut B,
+    ) -> Turn
+        requires may { Asked B.view B.serves B.says B.forward B.moves N.after board.old self.old.number (CellLoad (cell_of settling.wait) words.Owner) }
+        ensures made { (found : ℕ) × StepMade B.view B.serves B.says B.did N.after board.old self.old.number (CellLoad (cell_of settling.wait) words.Owner) (Number found) board.new }
+        ensures goes { self.new ≡ with_phase (phases.Weighing settling) self.old }
+        ensures turn { result ≡ Ran points.Step }
+    {
+        let _owner = board.cell_load::<N>(self.number, cell_of(settling.wait), CellWord::Owner);
+        self.phase = Phase::Weighing(settling);
+        RAN
+    }
+
+    /// Its State is loaded, and by that word the waiter is made ready or parked: the one that the counter got may be another by now.
+    pub(crate) fn weigh<B: Board, N: NamesView>(
+        &mut self,
+        settling: Settling,
+        board: &mut B,
+    ) -> Turn
+        requires may { Asked B.view B.serves B.says B.forward B.moves N.after board.old self.old.number (CellLoad (cell_of settling.wait) words.State) }
+        ensures made { (found : ℕ) × StepMade B.view B.serves B.says B.did N.after board.old self.old.number (CellLoad (cell_of settling.wait) words.State) (Number found) board.new × (self.new ≡ settled (record settling { seen = found }) self.old) }
+        ensures turn { result ≡ Ran points.Step }
+    {
+        let seen = board.cell_load::<N>(self.number, cell_of(settling.wait), CellWord::State);
+        self.settle(Settling { seen, ..settling });
         RAN
     }
 
