@@ -1,0 +1,4 @@
+pub mod Forward
+pub mod Settled
+pub mod Unread
+pub mod Late
