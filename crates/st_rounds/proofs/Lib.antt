@@ -1,0 +1,15 @@
+pub mod Hearing
+pub mod Turns
+pub mod Once
+pub mod Idle
+pub mod Round
+pub mod Mailing
+pub mod Shrinking
+pub mod Rounds
+pub mod Taking
+pub mod Carrying
+pub mod Arriving
+pub mod Landing
+pub mod Coming
+pub mod Starting
+pub mod Comings
