@@ -1,0 +1,16 @@
+pub mod Turned
+pub mod Hearing
+pub mod Places
+pub mod Polling
+pub mod Asked
+pub mod Sending
+pub mod Alive
+pub mod Ahead
+pub mod Shrinking
+pub mod Sharing
+pub mod Giving
+pub mod Going
+pub mod Given
+pub mod Staying
+pub mod Gone
+pub mod Answers

@@ -1,0 +1,6 @@
+//! What the phases of a worker that polls and answers have to show: laws without code.
+#![tactic(auto)]
+
+mod laws;
+
+pub use laws::answers_keep;
