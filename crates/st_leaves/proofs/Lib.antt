@@ -1,0 +1,15 @@
+pub mod Chained
+pub mod Left
+pub mod Exporting
+pub mod Entering
+pub mod Parting
+pub mod Phases
+pub mod Unexported
+pub mod Living
+pub mod Taken
+pub mod Forward
+pub mod Suspending
+pub mod More
+pub mod TakenOut
+pub mod Carrying
+pub mod Remaining
